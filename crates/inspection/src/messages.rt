@@ -1,0 +1,81 @@
+use crate::faults::Fault;
+use crate::faults::Field;
+use interface::refusal::Refusal;
+use std::fmt;
+use survey::length::Length;
+
+// The value, as a reader of the format knows it.
+pub impl fmt::Display for Field as FieldDisplay {
+    fn fmt<W: fmt::Write>(&self, f: &mut fmt::Formatter<W>) -> fmt::Result {
+        write!(
+            f,
+            "{}",
+            match self {
+                Field::Capacity => "capacity=",
+                Field::Items => "items=",
+                Field::Hot => "hot=",
+                Field::Ghosts => "ghost=",
+                Field::Number => "the length's number",
+                Field::Place => "the file place",
+                Field::Observations => "the number of observations",
+                Field::Step => "the picture step",
+                Field::Mark => "the word changed or unchanged",
+            }
+        )
+    }
+}
+
+// The largest that the value may be, where it is a whole number.
+fn limit(field: Field) -> u64 {
+    match field {
+        Field::Number => u32::MAX as u64,
+        Field::Observations => Length::MAX_OBSERVATIONS as u64,
+        Field::Step => Length::MAX_STEP as u64,
+        _ => u64::MAX,
+    }
+}
+
+// Why settings are refused, in words.
+fn refusal(refusal: Refusal) -> &'static str {
+    match refusal {
+        Refusal::CapacityTooLarge => "the capacity is above 9007199254740992",
+        Refusal::TooManyItems => "there are more than 1048576 items",
+        Refusal::AllocationOutOfRange => "an allocation is not within 0 to 1",
+        Refusal::NoFreeSlot => "no slot is free",
+        Refusal::Overweight => "the record is above the hot target",
+        Refusal::NotResident => "there is no such record",
+        Refusal::TicketsUsedUp => "all ticket numbers are used up",
+        Refusal::PlaceholderGone => "the placeholder is gone",
+        Refusal::NothingOpen => "no record is open",
+        Refusal::GhostBoundTooLarge => "the ghost bound would be above 9007199254740992",
+    }
+}
+
+// Why a line is of no use, in words.
+pub impl fmt::Display for Fault as FaultDisplay {
+    fn fmt<W: fmt::Write>(&self, f: &mut fmt::Formatter<W>) -> fmt::Result {
+        match self {
+            Fault::Unknown => write!(f, "the first word is neither box nor length"),
+            Fault::Missing(field) => write!(f, "{field} is missing"),
+            Fault::NotANumber(field) => write!(f, "{field} is not a whole number"),
+            Fault::AboveRange(field) => {
+                let most = limit(*field);
+                write!(f, "{field} is above {most}")
+            }
+            Fault::NotAShare(field) => write!(
+                f,
+                "{field} is not a decimal number of at most 15 digits"
+            ),
+            Fault::NotNamed(field) => write!(f, "{field} is not where it belongs"),
+            Fault::NotAMark => write!(f, "the last word is neither changed nor unchanged"),
+            Fault::Surplus => write!(f, "there are more words than belong on the line"),
+            Fault::Overlong => write!(f, "the line is longer than 1024 bytes"),
+            Fault::SecondBox => write!(f, "the box is set up already"),
+            Fault::Refused(why) => {
+                let number = why.number();
+                let reason = refusal(*why);
+                write!(f, "the box is refused with number {number}, {reason}")
+            }
+        }
+    }
+}

@@ -1,0 +1,11 @@
+pub mod Lists
+pub mod Entries
+pub mod Hands
+pub mod Calls
+pub mod Requests
+pub mod Ledger
+pub mod Weight
+pub mod Promises
+pub mod Standing
+pub mod Laws
+pub mod Examples

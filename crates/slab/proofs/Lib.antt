@@ -1,0 +1,9 @@
+pub mod Fields
+pub mod Counts
+pub mod Rings
+pub mod Writes
+pub mod Walks
+pub mod Chains
+pub mod Tables
+pub mod Holding
+pub mod Changes
