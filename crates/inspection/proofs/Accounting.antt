@@ -17,9 +17,9 @@ use Rattle.survey.specs.declared.keys.LengthNumber.{LengthNumber}
 use Rattle.survey.specs.declared.write_back.Row.{Row}
 use Rattle.survey.specs.declared.write_back.WriteBackBuffer.{WriteBackBuffer}
 use Rattle.survey.specs.WritingBack.{Call, on-evict-hot, standing, corrected, after-all, noted, Gathers}
-use Rattle.inspection.specs.declared.faults.Fault.{Fault}
-use Rattle.inspection.specs.declared.statements.Statement.{Statement}
-use Rattle.inspection.specs.declared.statements.Statement.the-variants.{Nothing, Setup, Record}
+use Rattle.survey_text.specs.declared.faults.Fault.{Fault}
+use Rattle.survey_text.specs.declared.statements.Statement.{Statement}
+use Rattle.survey_text.specs.declared.statements.Statement.the-variants.{Nothing, Setup, Record}
 use Rattle.inspection.specs.declared.totals.Totals.{Totals}
 use Rattle.inspection.specs.declared.verdicts.Verdict.{Verdict}
 use Rattle.inspection.specs.declared.verdicts.Verdict.the-variants.{Unjudged, Fits, FitsTrimmed, TooHeavy}

@@ -1,8 +1,4 @@
-pub mod Words
-pub mod Digits
-pub mod Statements
 pub mod Verdicts
-pub mod Lines
 pub mod Refused
 pub mod Sums
 pub mod Sessions

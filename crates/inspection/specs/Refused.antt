@@ -4,7 +4,7 @@ use mathlib.Core.List.{List}
 use Prim.Native.Nat.{ℕ, _+_, _-_, _^_, min}
 use lib.Dec.{ltb}
 use lib.ListN.{set, take}
-use Rattle.inspection.specs.declared.faults.Fault.{Fault}
+use Rattle.survey_text.specs.declared.faults.Fault.{Fault}
 use Rattle.inspection.specs.declared.refused.RefusedLine.{RefusedLine}
 use Rattle.inspection.specs.declared.refused.RefusedLines.{RefusedLines}
 

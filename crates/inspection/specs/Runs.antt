@@ -8,9 +8,9 @@ use Rattle.std.specs.Iters.{folded}
 use Rattle.std.specs.declared.result.Result.{Result}
 use Rattle.std.specs.declared.result.Result.the-variants.{Ok, Err}
 use Rattle.survey.specs.WritingBack.{Call, on-evict-hot, standing, corrected}
-use Rattle.inspection.specs.declared.faults.Fault.{Fault}
-use Rattle.inspection.specs.declared.statements.Statement.{Statement}
-use Rattle.inspection.specs.declared.statements.Statement.the-variants.{Nothing, Setup, Record}
+use Rattle.survey_text.specs.declared.faults.Fault.{Fault}
+use Rattle.survey_text.specs.declared.statements.Statement.{Statement}
+use Rattle.survey_text.specs.declared.statements.Statement.the-variants.{Nothing, Setup, Record}
 use Rattle.inspection.specs.declared.totals.Totals.{Totals}
 use Rattle.inspection.specs.Sessions.{State, followed, inspected, leaving}
 

@@ -17,14 +17,14 @@ use Rattle.survey.specs.declared.write_back.WriteBackBuffer.{WriteBackBuffer}
 use Rattle.survey.specs.Lengths.{trim}
 use Rattle.survey.specs.Weights.{length-weight}
 use Rattle.survey.specs.WritingBack.{noted}
-use Rattle.inspection.specs.declared.faults.Fault.{Fault}
-use Rattle.inspection.specs.declared.faults.Fault.the-variants.{SecondBox, Refused}
+use Rattle.survey_text.specs.declared.faults.Fault.{Fault}
+use Rattle.survey_text.specs.declared.faults.Fault.the-variants.{SecondBox, Refused}
 use Rattle.inspection.specs.declared.refused.RefusedLines.{RefusedLines}
 use Rattle.inspection.specs.declared.session.Report.{Report}
 use Rattle.inspection.specs.declared.session.Report.the-variants.{Silent, BoxSetUp, Measured, LineRefused}
 use Rattle.inspection.specs.declared.session.Session.{Session}
-use Rattle.inspection.specs.declared.statements.Statement.{Statement}
-use Rattle.inspection.specs.declared.statements.Statement.the-variants.{Nothing, Setup, Record}
+use Rattle.survey_text.specs.declared.statements.Statement.{Statement}
+use Rattle.survey_text.specs.declared.statements.Statement.the-variants.{Nothing, Setup, Record}
 use Rattle.inspection.specs.declared.totals.Totals.{Totals}
 use Rattle.inspection.specs.declared.verdicts.Inspected.{Inspected}
 use Rattle.inspection.specs.declared.verdicts.Verdict.{Verdict}

@@ -1,12 +1,8 @@
-// What the van makes of a survey, line by line: the words of a line, the statement that they make, what the
-// box would do with a pipe length, and the totals at the end.
-mod digits;
-pub mod faults;
-pub mod lines;
-pub mod messages;
+// What the van makes of a survey, line by line: what the box would do with each pipe length, the corrected
+// records to write back, and the totals at the end.
 pub mod refused;
 pub mod session;
-pub mod statements;
+#[cfg(test)]
+mod tests;
 pub mod totals;
 pub mod verdicts;
-mod words;

@@ -1,15 +1,13 @@
 ghost use mathlib.Core.Path.{_≡_};
 ghost use Rattle.std.specs.Finite.{nth};
 ghost use Rattle.inspection.specs.Refused.{standing, noted};
-use crate::faults::Fault;
-use crate::faults::FaultDebug;
-use crate::faults::FaultPartialEq;
+use survey_text::faults::Fault;
 
 // How many refused lines are kept.
 pub const KEPT_LINES: usize = 32;
 
 // A line that was refused, by its number, and why.
-#[derive(Clone, Copy, PartialEq, Eq, Debug)]
+#[derive(Clone, Copy)]
 pub struct RefusedLine {
     pub line: u64,
     pub fault: Fault,

@@ -9,9 +9,7 @@ ghost use Rattle.survey.specs.WritingBack.{noted, Gathers};
 ghost use Rattle.inspection.specs.Sessions.{state, inspected, leaving, measured, turned-down, set-up-box, followed, Same-but-rows};
 ghost use Rattle.inspection.specs.Sums.{none-yet};
 ghost use Rattle.inspection.specs.Runs.{Reading, Accounts};
-use crate::faults::Fault;
 use crate::refused::RefusedLines;
-use crate::statements::Statement;
 use crate::totals::Totals;
 use crate::verdicts::Inspected;
 use crate::verdicts::Verdict;
@@ -23,6 +21,8 @@ use survey::length::Length;
 use survey::write_back::WriteBack;
 use survey::write_back::WriteBackBuffer;
 use survey::write_back::WriteBackLifecycle;
+use survey_text::faults::Fault;
+use survey_text::statements::Statement;
 
 mod reading;
 

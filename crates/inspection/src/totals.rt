@@ -5,7 +5,7 @@ use crate::verdicts::Verdict;
 
 // How many pipe lengths came, by verdict, how many of them were corrected, and what those that the box lets in
 // weigh together. Each stops at 2^64 - 1.
-#[derive(Clone, Copy, PartialEq, Eq, Debug)]
+#[derive(Clone, Copy)]
 pub struct Totals {
     pub lengths: u64,
     pub fits: u64,
@@ -17,7 +17,7 @@ pub struct Totals {
 }
 
 // What is left of the capacity, or how much is over it.
-#[derive(Clone, Copy, PartialEq, Eq, Debug)]
+#[derive(Clone, Copy)]
 pub enum Balance {
     Left(u64),
     Over(u64),

@@ -12,7 +12,7 @@ use survey::weight::LengthWeight;
 use survey::weight::LengthWeighter;
 
 // What the box would do with a pipe length.
-#[derive(Clone, Copy, PartialEq, Eq, Debug)]
+#[derive(Clone, Copy)]
 pub enum Verdict {
     // no box is set up
     Unjudged,
@@ -25,7 +25,7 @@ pub enum Verdict {
 }
 
 // What a pipe length weighs, what it weighs without its picture, and the verdict.
-#[derive(Clone, Copy, PartialEq, Eq, Debug)]
+#[derive(Clone, Copy)]
 pub struct Inspected {
     pub weight: u32,
     pub trimmed: u32,

@@ -10,7 +10,7 @@ use lib.ListN.{length}
 use Rattle.std.proofs.shelf.Bits.{div-below}
 use Rattle.std.proofs.shelf.Lists.{append-assoc}
 use Rattle.std.proofs.shelf.Tests.{lt-ltb, le-ltb, cond-true, cond-false, cases-eq, cases-lt}
-use Rattle.std.specs.declared.option.Option.the-variants.{Some, None}
+use Rattle.std.specs.declared.option.Option.the-variants.{Some}
 use Rattle.slab.specs.Places.{count, headOf, behindFirst, upto}
 use Rattle.slab.specs.Chains.{Chain, follow, chain, Ends, bucketOf}
 use Rattle.slab.proofs.Counts.{count-head, count-append, one-at, one-off, apart, placed-length}

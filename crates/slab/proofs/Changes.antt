@@ -1,7 +1,7 @@
 -- What the writes of each call make of what a slab holds.
 use mathlib.Core.Path.{_≡_, refl, sym, ap, _∙_, subst}
 use mathlib.Core.Bool.{true}
-use mathlib.Core.List.{List, [], _∷_, _++_, map}
+use mathlib.Core.List.{List, [], _∷_, _++_}
 use mathlib.Core.Logic.{⊎-elim}
 use Prim.Native.Nat.{ℕ, zero, suc, _+_, _-_, _≤_, _<_}
 use native.Mathlib.Omega.{arith}
@@ -16,11 +16,12 @@ use Rattle.slab.specs.Places.{look, one, count, countIn, headOf, front, rest, 
 use Rattle.slab.specs.Slots.{buckets, chains, nexts, prevs, hashes, items, itemAt}
 use Rattle.slab.specs.Rings.{Ring, KeptOff}
 use Rattle.slab.specs.Chains.{Chain, Ends, Table, bucketOf, chain, chainOf, homeOf, Rechained}
-use Rattle.slab.specs.Holding.{total, Rings, Holds, SameLinks}
+use Rattle.slab.specs.Holding.{Rings, Holds, SameLinks}
 use Rattle.slab.proofs.Counts.{one-at, one-off, count-append, count-head, count-less, count-without, count-behind, countIn-append}
-use Rattle.slab.proofs.Chains.{bucket-below, chain-past, chain-frame, ends-from, count-upto, length-upto, chain-upto}
+use Rattle.slab.proofs.Writes.{ring-turned}
+use Rattle.slab.proofs.Chains.{bucket-below, chain-frame, ends-from, count-upto, length-upto, chain-upto}
 use Rattle.slab.proofs.Tables.{other-chain, table-changed}
-use Rattle.slab.proofs.Holding.{rings-join, rings-split, rings-kept, rings-none, at-most, below, used-below, entered-used}
+use Rattle.slab.proofs.Holding.{rings-join, rings-split, rings-kept, rings-none, at-most, below, entered-used}
 
 -- what has no value where another has none has none
 none-from : {A B : Type 0} (o : Option A) (p : Option B) → isSome o ≡ isSome p → p ≡ None → o ≡ None
@@ -86,6 +87,33 @@ module _ {T : Type 0} where
         taken = λ k. omega (arith, was k, now k, same k, w .taken k);
         counted = omega (arith, w .counted);
         size = omega (arith, w .size);
+      }
+
+  -- ---- nothing changes
+  -- a ring may be named from any of its places on
+  pub rotated : {s : List (Slot T)} {free used : ℕ} {loose vacant entered : List ℕ} (before after : List (List ℕ)) (a b : List ℕ) → Holds s free used (before ++ (a ++ b) ∷ after) loose vacant entered → Holds s free used (before ++ (b ++ a) ∷ after) loose vacant entered
+  rotated {s} {free} {used} {loose} {vacant} {entered} before after a b w =
+      relinked before after (a ++ b) (b ++ a) [] loose w (ring-turned a b (rings-split s before ((a ++ b) ∷ after) (w .each) .1 .0))
+      (λ k z. (refl, refl)) (λ k. omega arith) (λ k. omega (arith, count-append k a b, count-append k b a)) refl refl refl refl refl
+
+  -- the loose and the entered places may be named in any order
+  pub recounted : {s : List (Slot T)} {free used : ℕ} {rings : List (List ℕ)} {loose vacant entered : List ℕ} (loose′ entered′ : List ℕ) → ((k : ℕ) → count k loose′ ≡ count k loose) → ((k : ℕ) → count k entered′ ≡ count k entered) → Holds s free used rings loose vacant entered → Holds s free used rings loose′ vacant entered′
+  recounted loose′ entered′ ls es w =
+      record {
+        each = w .each;
+        freed = w .freed;
+        place = λ k h. omega (arith, ls k, w .place k h);
+        beyond = λ k h. omega (arith, ls k, w .beyond k h);
+        empty = w .empty;
+        full = w .full;
+        table = record {
+          ends = w .table .ends;
+          here = λ b k lb is. w .table .here b k lb is ∙ sym (es k);
+          gone = w .table .gone;
+        };
+        taken = λ k. omega (arith, ls k, es k, w .taken k);
+        counted = w .counted;
+        size = w .size;
       }
 
   -- ---- a place is taken

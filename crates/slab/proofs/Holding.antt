@@ -1,19 +1,16 @@
 -- What follows from what a slab holds.
-use mathlib.Core.Path.{_≡_, refl, sym, ap, _∙_, subst}
+use mathlib.Core.Path.{_≡_, refl, ap}
 use mathlib.Core.List.{List, [], _∷_, _++_}
 use mathlib.Core.Logic.{⊎-elim}
 use Prim.Native.Nat.{ℕ, zero, suc, _+_, _≤_, _<_}
 use native.Mathlib.Omega.{arith}
 use lib.ListN.{length, replicate}
 use Rattle.std.proofs.shelf.Tests.{cases-lt, cases-eq}
-use Rattle.std.specs.Options.{Cases}
-use Rattle.std.specs.declared.option.Option.{Option}
-use Rattle.std.specs.declared.option.Option.the-variants.{Some, None}
 use Rattle.slab.specs.declared.slots.Slot.{Slot}
-use Rattle.slab.specs.Places.{look, one, count, countIn, lengths, headOf}
-use Rattle.slab.specs.Slots.{buckets, chains, nexts, prevs, hashes}
+use Rattle.slab.specs.Places.{look, count, countIn, lengths, headOf}
+use Rattle.slab.specs.Slots.{nexts, hashes}
 use Rattle.slab.specs.Rings.{Ring, KeptOff, ringOf, Linked, Linkable}
-use Rattle.slab.specs.Chains.{Chain, Ends, Table, bucketOf, chain, chainOf, freeOf, homeOf, Chained}
+use Rattle.slab.specs.Chains.{Ends, chain, chainOf, freeOf, homeOf, Chained}
 use Rattle.slab.specs.Holding.{total, Rings, Holds}
 use Rattle.slab.proofs.Counts.{one-at, one-off, count-head, placed-length, all-length}
 use Rattle.slab.proofs.Writes.{links, ring-kept}

@@ -8,11 +8,11 @@ use lib.ListN.{length, set}
 use Rattle.std.proofs.shelf.Lists.{append-assoc, length-map, length-set, getD-set-same, getD-set-other}
 use Rattle.std.proofs.shelf.Tests.{cases-eq}
 use Rattle.slab.specs.declared.slots.Slot.{Slot}
-use Rattle.slab.specs.Places.{look, one, count, behindFirst, without}
+use Rattle.slab.specs.Places.{look, count, behindFirst, without}
 use Rattle.slab.specs.Slots.{buckets, chains}
 use Rattle.slab.specs.Chains.{chain, Ends, Table, chainOf, Rechained}
-use Rattle.slab.proofs.Counts.{one-at, one-off, count-append, count-head, apart, without-is}
-use Rattle.slab.proofs.Chains.{step, at-end, inside, chain-past, chain-kept, chain-alone, chain-behind, chain-cut}
+use Rattle.slab.proofs.Counts.{one-at, count-append, count-head, apart, without-is}
+use Rattle.slab.proofs.Chains.{step, at-end, chain-past, chain-kept, chain-alone, chain-behind, chain-cut}
 
 module _ {T : Type 0} (s s′ : List (Slot T)) (b at : ℕ) (len : length s′ ≡ length s) where
   -- a bucket's chain in the new slots, known at the old length
@@ -29,10 +29,12 @@ module _ {T : Type 0} (s s′ : List (Slot T)) (b at : ℕ) (len : length s′ �
   same-heads : buckets s′ ≡ buckets s → (c : ℕ) → look (buckets s′) c ≡ look (buckets s) c
   same-heads e c = ap (λ l. look l c) e
 
-  pub entered-behind : at < length s → Ends (look (chains s)) (length s) (look (buckets s) b) → count at (chainOf s b) ≡ 0 → look (buckets s) b < length s → buckets s′ ≡ buckets s → chains s′ ≡ set (set (chains s) at (look (chains s) (look (buckets s) b))) (look (buckets s) b) at → Rechained s s′ b at (behindFirst at (chainOf s b))
-  entered-behind here w out lt bs cs =
+  pub entered-behind : (h₀ second : ℕ) → h₀ ≡ look (buckets s) b → second ≡ look (chains s) h₀ → at < length s → Ends (look (chains s)) (length s) (look (buckets s) b) → count at (chainOf s b) ≡ 0 → h₀ < length s → buckets s′ ≡ buckets s → chains s′ ≡ set (set (chains s) at second) h₀ at → Rechained s s′ b at (behindFirst at (chainOf s b))
+  entered-behind h₀ second is next here w out lt₀ bs cs₀ =
       let n = look (chains s) in
       let h = look (buckets s) b in
+      let lt : h < length s = omega arith in
+      let cs : chains s′ ≡ set (set (chains s) at (n h)) h at = rw (next, is) at cs₀ in
       let in-h : 1 ≤ count h (chainOf s b) = omega (arith, ap (λ l. count h l) (step n (length s) h w lt .0), count-head h (chain n (length s) (n h))) in
       let ne : (at ≡ h → ⊥) = λ e. apart at h (chainOf s b) out in-h e in
       let la : at < length (chains s) = simp length-map here in
@@ -46,10 +48,12 @@ module _ {T : Type 0} (s s′ : List (Slot T)) (b at : ℕ) (len : length s′ �
       (λ k na z. same k (apart k h (chainOf s b) z in-h) na)
       (λ c nc. same-heads bs c)
 
-  pub entered-first : at < length s → b < length s → Ends (look (chains s)) (length s) (look (buckets s) b) → length s ≤ look (buckets s) b → buckets s′ ≡ set (buckets s) b at → chains s′ ≡ set (chains s) at (look (buckets s) b) → Rechained s s′ b at (behindFirst at (chainOf s b))
-  entered-first here lb w past bs cs =
+  pub entered-first : (h₀ : ℕ) → h₀ ≡ look (buckets s) b → at < length s → b < length s → Ends (look (chains s)) (length s) (look (buckets s) b) → length s ≤ h₀ → buckets s′ ≡ set (buckets s) b at → chains s′ ≡ set (chains s) at h₀ → Rechained s s′ b at (behindFirst at (chainOf s b))
+  entered-first h₀ is₀ here lb w past₀ bs cs₀ =
       let n = look (chains s) in
       let h = look (buckets s) b in
+      let past : length s ≤ h = omega arith in
+      let cs : chains s′ ≡ set (chains s) at h = rw is₀ at cs₀ in
       let la : at < length (chains s) = simp length-map here in
       let lb′ : b < length (buckets s) = simp length-map lb in
       let to : look (chains s′) at ≡ length s = rw cs (getD-set-same (chains s) at h 0 la ∙ at-end n (length s) h w past) in

@@ -4,7 +4,7 @@ use mathlib.Core.List.{List, [], _∷_, _++_}
 use mathlib.Core.Logic.{⊎-elim}
 use Prim.Native.Nat.{ℕ, _+_, _≤_, _<_}
 use native.Mathlib.Omega.{arith}
-use lib.ListN.{length, getD, set}
+use lib.ListN.{length, set}
 use Rattle.std.proofs.shelf.Lists.{length-set, length-map, getD-set-same, getD-set-other}
 use Rattle.std.proofs.shelf.Tests.{cases-eq}
 use Rattle.std.specs.declared.option.Option.the-variants.{Some, None}
@@ -48,7 +48,7 @@ unlink-one old [] r e = (record { cycle = tt; once = λ k. omega arith; within =
 unlink-one old (y ∷ ys) r e = absurd (omega (arith, r .once old, one-at old old refl, one-at old y (sym e ∙ r .cycle .0)))
 
 module _ {T : Type 0} (s s′ : List (Slot T)) where
-  pub link-at : (h new : ℕ) (t : List ℕ) → Ring s (h ∷ t) → count new (h ∷ t) ≡ 0 → new < length s → nexts s′ ≡ set (set (nexts s) (look (prevs s) h) new) new h → prevs s′ ≡ set (set (prevs s) h new) new (look (prevs s) h) → Ring s′ (h ∷ t ++ new ∷ []) × KeptOff (h ∷ t ++ new ∷ []) s s′
+  link-at : (h new : ℕ) (t : List ℕ) → Ring s (h ∷ t) → count new (h ∷ t) ≡ 0 → new < length s → nexts s′ ≡ set (set (nexts s) (look (prevs s) h) new) new h → prevs s′ ≡ set (set (prevs s) h new) new (look (prevs s) h) → Ring s′ (h ∷ t ++ new ∷ []) × KeptOff (h ∷ t ++ new ∷ []) s s′
   link-at h new t r out here ns ps =
       let last = look (prevs s) h in
       let len : length s′ ≡ length s = simp (length-map, length-set) at (ap length ns) in
@@ -76,9 +76,11 @@ module _ {T : Type 0} (s s′ : List (Slot T)) where
             (others-n k (apart k last (h ∷ t) (o .0) in-last) (o .1), others-p k (apart k h (h ∷ t) (o .0) (count-head h t)) (o .1)),
       )
 
-  pub link-some : (h new : ℕ) (xs : List ℕ) → Ring s xs → Some h ≡ headOf xs → count new xs ≡ 0 → new < length s → nexts s′ ≡ set (set (nexts s) (look (prevs s) h) new) new h → prevs s′ ≡ set (set (prevs s) h new) new (look (prevs s) h) → Ring s′ (xs ++ new ∷ []) × KeptOff (xs ++ new ∷ []) s s′
-  link-some h new [] r is out here ns ps = let z : _≡_ {A = ℕ} 0 1 = cc in absurd (omega arith)
-  link-some h new (x ∷ t) r is out here ns ps = let e : h ≡ x = cc in link-at x new t r out here (rw e at ns) (rw e at ps)
+  pub link-some : (h last new : ℕ) (xs : List ℕ) → last ≡ look (prevs s) h → Ring s xs → Some h ≡ headOf xs → count new xs ≡ 0 → new < length s → nexts s′ ≡ set (set (nexts s) last new) new h → prevs s′ ≡ set (set (prevs s) h new) new last → Ring s′ (xs ++ new ∷ []) × KeptOff (xs ++ new ∷ []) s s′
+  link-some h last new [] el r is out here ns ps = let z : _≡_ {A = ℕ} 0 1 = cc in absurd (omega arith)
+  link-some h last new (x ∷ t) el r is out here ns ps =
+      let e : h ≡ x = cc in
+      link-at x new t r out here (rw (el, e) at ns) (rw (el, e) at ps)
 
   pub link-none : (new : ℕ) (xs : List ℕ) → Ring s xs → None ≡ headOf xs → new < length s → nexts s′ ≡ set (nexts s) new new → prevs s′ ≡ set (prevs s) new new → Ring s′ (xs ++ new ∷ []) × KeptOff (xs ++ new ∷ []) s s′
   link-none new (x ∷ t) r is here ns ps = let z : _≡_ {A = ℕ} 0 1 = cc in absurd (omega arith)
@@ -93,7 +95,7 @@ module _ {T : Type 0} (s s′ : List (Slot T)) where
             (rw ns (getD-set-other (nexts s) new k new 0 ne), rw ps (getD-set-other (prevs s) new k new 0 ne)),
       )
 
-  pub unlink-more : (old : ℕ) (xs : List ℕ) → Ring s (old ∷ xs) → (look (nexts s) old ≡ old → ⊥) → nexts s′ ≡ set (nexts s) (look (prevs s) old) (look (nexts s) old) → prevs s′ ≡ set (prevs s) (look (nexts s) old) (look (prevs s) old) → Ring s′ xs × (Some (look (nexts s) old) ≡ headOf xs) × KeptOff (old ∷ xs) s s′
+  unlink-more : (old : ℕ) (xs : List ℕ) → Ring s (old ∷ xs) → (look (nexts s) old ≡ old → ⊥) → nexts s′ ≡ set (nexts s) (look (prevs s) old) (look (nexts s) old) → prevs s′ ≡ set (prevs s) (look (nexts s) old) (look (prevs s) old) → Ring s′ xs × (Some (look (nexts s) old) ≡ headOf xs) × KeptOff (old ∷ xs) s s′
   unlink-more old [] r ne ns₀ ps₀ = absurd (ne (r .cycle .0))
   unlink-more old (y ∷ ys) r ne ns₀ ps₀ =
       let prev = look (prevs s) old in
@@ -116,10 +118,10 @@ module _ {T : Type 0} (s s′ : List (Slot T)) where
         λ k z. (others-n k (apart k prev (y ∷ ys) (omega arith) in-prev), others-p k (apart k y (y ∷ ys) (omega arith) (count-head y ys))),
       )
 
-  pub unlink-all : (old : ℕ) (a b : List ℕ) → Ring s (a ++ old ∷ b) → (look (nexts s) old ≡ old → ⊥) → nexts s′ ≡ set (nexts s) (look (prevs s) old) (look (nexts s) old) → prevs s′ ≡ set (prevs s) (look (nexts s) old) (look (prevs s) old) → Ring s′ (b ++ a) × (Some (look (nexts s) old) ≡ headOf (b ++ a)) × KeptOff (a ++ old ∷ b) s s′
-  unlink-all old a b r ne ns ps =
-      let q = unlink-more old (b ++ a) (ring-turned a (old ∷ b) r) ne ns ps in
-      (q .0, q .1, λ k z. q .2 k (rw (count-turned k (old ∷ b) a) z))
+  pub unlink-all : (old prev next : ℕ) (a b : List ℕ) → prev ≡ look (prevs s) old → next ≡ look (nexts s) old → Ring s (a ++ old ∷ b) → (next ≡ old → ⊥) → nexts s′ ≡ set (nexts s) prev next → prevs s′ ≡ set (prevs s) next prev → Ring s′ (b ++ a) × (Some next ≡ headOf (b ++ a)) × KeptOff (a ++ old ∷ b) s s′
+  unlink-all old prev next a b ep en r ne ns ps =
+      let q = unlink-more old (b ++ a) (ring-turned a (old ∷ b) r) (λ e. ne (en ∙ e)) (rw (ep, en) at ns) (rw (ep, en) at ps) in
+      (q .0, ap Some en ∙ q .1, λ k z. q .2 k (rw (count-turned k (old ∷ b) a) z))
 
 -- ---- what a ring says of its places
 head-links : {T : Type 0} {s : List (Slot T)} (x : ℕ) (xs : List ℕ) → Ring s (x ∷ xs) → Linked s x

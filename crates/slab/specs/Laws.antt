@@ -32,3 +32,8 @@ module _ {T : Type 0} where
   abbrev pub ItemsApart : List (Slot T) → Type 0
   ItemsApart s =
       (s′ : List (Slot T)) (free used : ℕ) (rings : List (List ℕ)) (loose vacant entered : List ℕ) → SameLinks s s′ → Holds s free used rings loose vacant entered → Holds s′ free used rings loose vacant entered
+
+  -- A ring may be named from any of its places on, and the loose and the entered places in any order.
+  pub record Renamed (s : List (Slot T)) : Type 0 where
+    pub ring : (free used : ℕ) (before after : List (List ℕ)) (a b loose vacant entered : List ℕ) → Holds s free used (before ++ (a ++ b) ∷ after) loose vacant entered → Holds s free used (before ++ (b ++ a) ∷ after) loose vacant entered
+    pub order : (free used : ℕ) (rings : List (List ℕ)) (loose loose′ vacant entered entered′ : List ℕ) → ((k : ℕ) → count k loose′ ≡ count k loose) → ((k : ℕ) → count k entered′ ≡ count k entered) → Holds s free used rings loose vacant entered → Holds s free used rings loose′ vacant entered′

@@ -2,7 +2,6 @@
 ghost use mathlib.Core.Path.{_≡_};
 ghost use Prim.Native.Nat.{_<_, _≤_};
 ghost use lib.ListN.{length, set};
-ghost use Rattle.std.specs.declared.option.Option.{Option};
 ghost use Rattle.slab.specs.Places.{look, count, headOf, behindFirst, without};
 ghost use Rattle.slab.specs.Slots.{buckets, chains, nexts, prevs, hashes, items, Columns};
 ghost use Rattle.slab.specs.Chains.{bucketOf, Ends, chainFrom, chainOf, restOf, homeOf, Chained, JustBefore, Rechained};

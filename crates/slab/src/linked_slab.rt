@@ -2,7 +2,6 @@
 ghost use mathlib.Core.Path.{_≡_};
 ghost use Prim.Native.Nat.{_<_, _≤_, min};
 ghost use lib.ListN.{length, set};
-ghost use Rattle.std.specs.declared.option.Option.{Option};
 ghost use Rattle.std.specs.declared.option.Option.the-variants.{Some, None};
 ghost use Rattle.slab.specs.Places.{look, headOf};
 ghost use Rattle.slab.specs.Slots.{chains, nexts, prevs, hashes, items, itemAt, SameChains, SameRings};

@@ -1,22 +1,21 @@
 // Checks a survey of pipe lengths against a box: reads it from standard input, line by line, and prints what
 // the box would do with each length, the corrected records to write back, and a summary.
-#[cfg(test)]
-mod tests;
+mod messages;
 
-use inspection::lines::Line;
-use inspection::messages::FaultDisplay;
 use inspection::refused::KEPT_LINES;
 use inspection::session::Report;
 use inspection::session::Session;
-use inspection::statements::read_line;
 use inspection::totals::Balance;
 use inspection::verdicts::Inspected;
 use inspection::verdicts::Verdict;
+use messages::Reason;
+use messages::ReasonDisplay;
 use std::io;
 use std::io::Read;
 use survey::keys::LengthNumber;
 use survey::length::Length;
 use survey::write_back::ROWS;
+use survey_text::lines::Line;
 
 // What a verdict says to a reader.
 fn wording(verdict: Verdict) -> &'static str {
@@ -66,7 +65,7 @@ fn print_rows(rt: &LibcRuntime, session: &Session) -> io::Result<()> {
 
 // Goes on with a whole line, prints what there is to say, and writes full rows.
 fn finish(rt: &LibcRuntime, session: &mut Session, number: u64, line: &Line) -> io::Result<()> {
-    match session.follow(number, read_line(line.bytes(), line.overlong())) {
+    match session.follow(number, line.read()) {
         Report::Silent => {}
         Report::BoxSetUp(capacity, hot_target, ghost_bound) => {
             println!(
@@ -81,7 +80,10 @@ fn finish(rt: &LibcRuntime, session: &mut Session, number: u64, line: &Line) -> 
             length,
             inspected,
         )?,
-        Report::LineRefused(fault) => println!(rt, "line {number}: refused: {fault}")?,
+        Report::LineRefused(fault) => {
+            let reason = Reason(fault);
+            println!(rt, "line {number}: refused: {reason}")?;
+        }
     }
     if session.row_count() >= ROWS as u64 {
         print_rows(rt, session)?;
@@ -122,8 +124,8 @@ fn print_refused(rt: &LibcRuntime, session: &Session) -> io::Result<()> {
     'refused: for i in 0..KEPT_LINES {
         if let Some(row) = session.refused_line(i) {
             let line = row.line;
-            let fault = row.fault;
-            println!(rt, "  line {line}: {fault}")?;
+            let reason = Reason(row.fault);
+            println!(rt, "  line {line}: {reason}")?;
         }
     }
     if count > KEPT_LINES as u64 {

@@ -1,4 +1,4 @@
-use mathlib.Core.Path.{_≡_, sym, subst, _∙_, refl, ap}
+use mathlib.Core.Path.{_≡_, refl, sym, ap, subst, _∙_}
 use mathlib.Core.List.{_∷_, _++_}
 use Prim.Native.Nat.{_≤_, _<_}
 use lib.ListN.{length, set}
@@ -28,14 +28,15 @@ returns-then-head-at g c =
     let s′ = c .set-bucket .last .slots in
     let at = c .args .at in
     let b = homeOf s at in
-    let home : c .bucket-of-bucket .result ≡ b = cc in
+    let e = c .set-bucket .ensures in
+    let home : c .bucket-of-bucket .result ≡ b = c .bucket-of-bucket .ensures ∙ ap (λ x. bucketOf x (length s)) (c .hash-of-hash .ensures) in
     let len : length s′ ≡ length s = omega arith in
     let some : 1 ≤ length s = omega arith in
-    let is : look (buckets s) b ≡ at = cc in
-    let bs : buckets s′ ≡ set (buckets s) b (look (chains s) at) = cc in
+    let is : look (buckets s) b ≡ at = ap (λ i. look (buckets s) i) (sym home) ∙ sym (c .bucket-head-head .ensures) ∙ c .if-head-at .taken in
+    let bs : buckets s′ ≡ set (buckets s) b (look (chains s) at) = e .buckets ∙ ap (λ i. set (buckets s) i (c .chain-of-next .result)) home ∙ ap (λ v. set (buckets s) b v) (c .chain-of-next .ensures) in
     record {
-      chain = left-first s s′ b at len (bucket-below (look (hashes s) at) (length s) some) (c .pre .chained .ends) is (c .pre .chained .place) bs (c .set-bucket .ensures .chains);
-      others = record { buckets = refl; chains = refl; nexts = cc; prevs = cc; hashes = cc; items = cc };
+      chain = left-first s s′ b at len (bucket-below (look (hashes s) at) (length s) some) (c .pre .chained .ends) is (c .pre .chained .place) bs (e .chains);
+      others = record { buckets = refl; chains = refl; nexts = e .nexts; prevs = e .prevs; hashes = e .hashes; items = e .items };
     }
 
 pub returns-else-head-at : need.returns-else-head-at
@@ -46,12 +47,13 @@ returns-else-head-at g c =
     let b = homeOf s at in
     let p = c .place-before-before .result in
     let q = c .place-before-before .ensures in
-    let home : c .bucket-of-bucket .result ≡ b = cc in
-    let head : c .bucket-head-head .result ≡ look (buckets s) b = cc in
+    let e = c .set-chain .ensures in
+    let home : c .bucket-of-bucket .result ≡ b = c .bucket-of-bucket .ensures ∙ ap (λ x. bucketOf x (length s)) (c .hash-of-hash .ensures) in
+    let head : c .bucket-head-head .result ≡ look (buckets s) b = c .bucket-head-head .ensures ∙ ap (λ i. look (buckets s) i) home in
     let len : length s′ ≡ length s = omega arith in
     let was : chainOf s b ≡ q .before ++ p ∷ at ∷ q .after = ap (λ i. chainFrom s i) (sym head) ∙ q .split in
-    let cs : chains s′ ≡ set (chains s) p (look (chains s) at) = cc in
+    let cs : chains s′ ≡ set (chains s) p (look (chains s) at) = e .chains ∙ ap (λ v. set (chains s) p v) (c .chain-of-next .ensures) in
     record {
-      chain = left-later s s′ b at len p (q .before) (q .after) (c .pre .chained .ends) was (q .place) (c .set-chain .ensures .buckets) cs;
-      others = record { buckets = refl; chains = refl; nexts = cc; prevs = cc; hashes = cc; items = cc };
+      chain = left-later s s′ b at len p (q .before) (q .after) (c .pre .chained .ends) was (q .place) (e .buckets) cs;
+      others = record { buckets = refl; chains = refl; nexts = e .nexts; prevs = e .prevs; hashes = e .hashes; items = e .items };
     }

@@ -1,4 +1,4 @@
-use mathlib.Core.Path.{refl, sym, ap, _∙_}
+use mathlib.Core.Path.{refl, sym, ap}
 use lib.ListN.{length}
 use Rattle.slab.specs.Places.{look, headOf}
 use Rattle.slab.specs.Slots.{chains}

@@ -1,5 +1,3 @@
-use Prim.Native.Nat.{_≤_}
-use lib.ListN.{length}
 use native.Mathlib.Omega.{arith}
 use Rattle.slab.proofs.Holding.{ring-is, vacant-is, entered-is, used-is}
 use Rattle.slab.proofs.laws.read_off.Needs as need

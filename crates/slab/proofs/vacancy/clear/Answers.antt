@@ -1,6 +1,7 @@
 use mathlib.Core.Path.{_≡_, refl, sym, _∙_}
 use mathlib.Core.List.{List, map}
 use Prim.Native.Nat.{ℕ, _<_, _+_}
+use borrow.Author.Needs.{scaled-fits}
 use native.Mathlib.Omega.{arith}
 use lib.ListN.{length, getD, set}
 use Rattle.std.proofs.shelf.Edits.{fill-by-more}
@@ -12,6 +13,12 @@ use Rattle.slab.proofs.vacancy.clear.Needs as need
 column-more : {A B : Type 0} (f : A → B) (to : ℕ → B) (d : B) (l : List A) (i : ℕ) (a : A) → i < length l → f a ≡ to i → ((k : ℕ) → k < i → getD (map f l) k d ≡ to k) → (k : ℕ) → k < i + 1 → getD (map f (set l i a)) k d ≡ to k
 column-more f to d l i a h e inv =
     rw (map-set f l i a, e) (fill-by-more to (map f l) i d (simp length-map h) inv)
+
+pub offset-slots-i : need.offset-slots-i
+offset-slots-i g c = search scaled-fits
+
+pub index-slots-i : need.index-slots-i
+index-slots-i g c = omega arith
 
 pub fill-again : need.fill-again
 fill-again g c =

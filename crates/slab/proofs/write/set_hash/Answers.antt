@@ -1,17 +1,12 @@
-use mathlib.Core.Path.{refl}
-use Rattle.std.proofs.shelf.Lists.{map-set}
-use Rattle.slab.proofs.Fields.{map-set-kept}
+use borrow.Author.Needs.{scaled-fits}
+use Rattle.slab.proofs.Fields.{hash-written}
 use Rattle.slab.proofs.write.set_hash.Needs as need
 
+pub offset-slots-at : need.offset-slots-at
+offset-slots-at g c = search scaled-fits
+
+pub index-slots-at : need.index-slots-at
+index-slots-at g c = c .pre
+
 pub returns : need.returns
-returns g c =
-    let s = c .args .slots .now in
-    let at = c .args .at in
-    record {
-      buckets = map-set-kept (λ e. e .bucket) s at _ _ (c .pre) refl;
-      chains = map-set-kept (λ e. e .chain) s at _ _ (c .pre) refl;
-      nexts = map-set-kept (λ e. e .next) s at _ _ (c .pre) refl;
-      prevs = map-set-kept (λ e. e .prev) s at _ _ (c .pre) refl;
-      hashes = map-set (λ e. e .hash) s at _;
-      items = map-set-kept (λ e. e .item) s at _ _ (c .pre) refl;
-    }
+returns g c = hash-written (c .args .slots .now) (c .args .at) (c .index-slots-at .result) (c .args .hash) (c .pre)

@@ -7,7 +7,7 @@ use Rattle.std.proofs.shelf.Lists.{getD-take}
 use Rattle.std.proofs.shelf.Maps.{nth-getD, nth-past}
 use Rattle.std.specs.declared.option.Option.the-variants.{Some}
 use Rattle.inspection.specs.Refused.{standing}
-use Rattle.inspection.specs.declared.faults.Fault.the-variants.{Unknown}
+use Rattle.survey_text.specs.declared.faults.Fault.the-variants.{Unknown}
 use Rattle.inspection.proofs.refused.RefusedLines.get.Needs as need
 use Rattle.inspection.proofs.refused.RefusedLines.get.Needs.{else-i-lt-KEPT-LINES·by·then-i-lt-KEPT-LINES·else-i-self, else-i-lt-KEPT-LINES·by·else-i-lt-KEPT-LINES}
 

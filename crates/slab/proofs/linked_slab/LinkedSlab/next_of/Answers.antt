@@ -1,4 +1,4 @@
-use mathlib.Core.Path.{_≡_, ap, _∙_}
+use mathlib.Core.Path.{ap, _∙_}
 use Rattle.std.specs.declared.option.Option.the-variants.{Some}
 use Rattle.slab.proofs.Walks.{next-in}
 use Rattle.slab.proofs.linked_slab.LinkedSlab.next_of.Needs as need

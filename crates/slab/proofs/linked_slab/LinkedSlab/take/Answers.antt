@@ -1,8 +1,6 @@
-use mathlib.Core.Path.{_≡_, refl, sym, subst}
-use mathlib.Core.List.{_++_}
+use mathlib.Core.Path.{_≡_, refl}
 use native.Mathlib.Omega.{arith}
 use lib.ListN.{length}
-use Prim.Native.Nat.{_+_}
 use Rattle.slab.proofs.Changes.{took, took-none}
 use Rattle.slab.proofs.linked_slab.LinkedSlab.take.Needs as need
 

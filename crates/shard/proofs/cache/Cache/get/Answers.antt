@@ -1,0 +1,13 @@
+-- The shard is sound before the call, and so it is after it.
+use mathlib.Core.List.{[]}
+use Rattle.shard.proofs.Props.{opened}
+use Rattle.shard.proofs.cache.Cache.get.Needs as need
+
+pub get-requires : need.get-requires
+get-requires g c κs = opened (c .args .self .now .shard) [] (c .args .self .now .sound)
+
+pub ghost-self : need.ghost-self
+ghost-self g c = (∣ c .get .ensures .sound ∣₁, tt)
+
+pub returns : need.returns
+returns g c = c .get .ensures .model

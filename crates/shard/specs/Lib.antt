@@ -1,0 +1,13 @@
+pub mod Tallies
+pub mod Layout
+pub mod Moves
+pub mod Shows
+pub mod Carries
+pub mod Steps
+pub mod Hands
+pub mod Finds
+pub mod Search
+pub mod Depicts
+pub mod Replies
+pub mod Inserts
+pub mod Arrivals
