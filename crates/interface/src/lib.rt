@@ -1,5 +1,8 @@
 // What a cache asks of its keys, its weigher and its lifecycle. Each interface says by ghost members what an
 // implementation means; code that is generic in it knows nothing else.
+
+#![tactic(auto)]
+
 ghost use Rattle.std.specs.Prelude.{◌≡◌, ℕ, Bool, true, ◌||◌};
 ghost use Rattle.interface.specs.Meaning.{Life, idle};
 

@@ -1,5 +1,8 @@
 // The rules of the cache on plain lists are in specs/. The functions here carry the theorems about them: a
 // contract holds because it is proved, whatever the function returns.
+
+#![tactic(auto)]
+
 ghost use Rattle.model.specs.Examples.{Examples, FinerExamples};
 ghost use Rattle.model.specs.Laws.{LawOfRuns};
 ghost use Rattle.model.specs.Promises.{LawsOfHands};

@@ -1,4 +1,7 @@
 // One shard of a cache over a borrowed slice of slots.
+
+#![tactic(auto)]
+
 pub mod access;
 pub mod cache;
 pub mod cache_shard;

@@ -1,5 +1,8 @@
 // A linked slab over a borrowed slice of slots: rings of places, a free list, and hash chains, for every type of item
 // that can be copied.
+
+#![tactic(auto)]
+
 pub mod chain;
 pub mod field;
 pub mod laws;

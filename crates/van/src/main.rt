@@ -1,5 +1,8 @@
 // Checks a survey of pipe lengths against a box: reads it from standard input, line by line, and prints what
 // the box would do with each length, the corrected records to write back, and a summary.
+
+#![tactic(auto)]
+
 mod messages;
 
 use inspection::refused::KEPT_LINES;
