@@ -11,7 +11,7 @@ use Rattle.model.specs.Calls as calls
 use Rattle.model.specs.Calls.{State, Strategy, context}
 use Rattle.model.specs.Requests.{state_after, policy}
 use Rattle.model.proofs.Lists.{when_both}
-use Rattle.slab.specs.Slots.{items, hashes}
+use Rattle.ring_slab.specs.Slots.{items, hashes}
 use Rattle.shard.specs.declared.entry.Resident.{Resident}
 use Rattle.shard.specs.declared.entry.Placeholder.{Placeholder}
 use Rattle.shard.specs.declared.entry.Entry.{Entry}

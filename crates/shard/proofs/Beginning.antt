@@ -7,8 +7,8 @@ use Rattle.settings.specs.declared.options.Settings.{Settings}
 use Rattle.model.specs.Calls.{fresh as fresh_state}
 use Rattle.model.specs.Entries as model
 use Rattle.model.proofs.Runs.{laws_of_states}
-use Rattle.slab.specs.Calls.{slots_of, Fresh}
-use Rattle.slab.specs.declared.linked_slab.LinkedSlab.{LinkedSlab}
+use Rattle.ring_slab.specs.Calls.{slots_of, Fresh}
+use Rattle.ring_slab.specs.declared.linked_slab.LinkedSlab.{LinkedSlab}
 use Rattle.shard.specs.declared.entry.Entry.{Entry}
 use Rattle.shard.specs.Layout.{entry_at, hash_at}
 use Rattle.shard.specs.Shows.{Hashed, Shows}

@@ -3,9 +3,9 @@ use Rattle.std.proofs.Common.{◌≡◌, ℕ, suc, ◌+◌, ◌<◌, ◌≤◌, 
 use Rattle.interface.specs.Meaning.{Keying}
 use Rattle.model.specs.Lists.{mapped, when}
 use Rattle.model.specs.Entries as model
-use Rattle.slab.specs.Places.{count, one, look, head_of, front, rest}
-use Rattle.slab.specs.Slots.{items, hashes}
-use Rattle.slab.proofs.Counts.{one_at, count_append, count_less, count_head, split_at}
+use Rattle.ring_slab.specs.Places.{count, one, look, head_of, front, rest}
+use Rattle.ring_slab.specs.Slots.{items, hashes}
+use Rattle.ring_slab.proofs.Counts.{one_at, count_append, count_less, count_head, split_at}
 use Rattle.shard.specs.declared.entry.Entry.{Entry}
 use Rattle.shard.specs.declared.entry.Entry.TheVariants as E
 use Rattle.shard.specs.declared.ring.RingName.{RingName}

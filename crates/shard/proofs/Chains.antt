@@ -3,15 +3,15 @@ use Rattle.std.proofs.Common.{◌≡◌, ℕ, suc, ◌+◌, ◌-◌, ◌<◌, �
 use Rattle.std.proofs.lemmas.List.{append-nil, append_assoc}
 use Rattle.std.proofs.lemmas.Bool.{both_ways, cases_eq, eq-eqb, ne_eqb, cond-true, cond-false}
 use Rattle.interface.specs.Meaning.{Keying}
-use Rattle.slab.specs.Places.{look, count, head_of}
-use Rattle.slab.specs.Slots.{chains, nexts, hashes, item_at}
-use Rattle.slab.specs.Rings.{walk}
-use Rattle.slab.specs.Chains.{bucket_of, chain_of, rest_of}
-use Rattle.slab.specs.Calls.{slots_of, Follows}
-use Rattle.slab.specs.declared.slots.Slot.{Slot}
-use Rattle.slab.specs.declared.linked_slab.LinkedSlab.{LinkedSlab}
-use Rattle.slab.proofs.Counts.{one_at, one_off, count_append, apart}
-use Rattle.slab.proofs.Chains.{bucket_below, inside}
+use Rattle.ring_slab.specs.Places.{look, count, head_of}
+use Rattle.ring_slab.specs.Slots.{chains, nexts, hashes, item_at}
+use Rattle.ring_slab.specs.Rings.{walk}
+use Rattle.ring_slab.specs.Chains.{bucket_of, chain_of, rest_of}
+use Rattle.ring_slab.specs.Calls.{slots_of, Follows}
+use Rattle.ring_slab.specs.declared.slots.Slot.{Slot}
+use Rattle.ring_slab.specs.declared.linked_slab.LinkedSlab.{LinkedSlab}
+use Rattle.ring_slab.proofs.Counts.{one_at, one_off, count_append, apart}
+use Rattle.ring_slab.proofs.Chains.{bucket_below, inside}
 use Rattle.shard.specs.declared.entry.Entry.{Entry}
 use Rattle.shard.specs.declared.found.Sighting.{Sighting}
 use Rattle.shard.specs.declared.found.Sighting.TheVariants as S

@@ -1,8 +1,8 @@
 -- Counts of places, and sums over the slots of a shard.
 use Rattle.std.proofs.Common.{◌≡◌, ℕ, zero, suc, ◌+◌, ◌*◌, ◌<◌, ◌≤◌, Bool, true, false, List, [], ◌∷◌, ◌++◌, length, get_or, set, is_some, Some, None, Option, sym, refl, ap, ◌∙◌, subst, ⊎_elim, suc-mul, arith, MatchOption}
 use Rattle.std.proofs.lemmas.Bool.{eq-eqb, ne_eqb, cond-true, cond-false, cases_eq, both_ways}
-use Rattle.slab.specs.Places.{one, count, head_of, front, rest}
-use Rattle.slab.proofs.Counts.{one_at, one_off}
+use Rattle.ring_slab.specs.Places.{one, count, head_of, front, rest}
+use Rattle.ring_slab.proofs.Counts.{one_at, one_off}
 use Rattle.model.specs.Lists.{sum_of}
 use Rattle.shard.specs.Layout.{none_of}
 use Rattle.shard.specs.Moves.{handed}

@@ -7,9 +7,9 @@ use Rattle.model.specs.Lists.{tail, when}
 use Rattle.model.specs.Entries as model
 use Rattle.model.specs.Hands.{Context, ghosts_after, evict}
 use Rattle.model.specs.Requests.{state_after}
-use Rattle.slab.specs.Places.{count}
-use Rattle.slab.specs.Slots.{items, hashes}
-use Rattle.slab.proofs.Counts.{one_at, count_head}
+use Rattle.ring_slab.specs.Places.{count}
+use Rattle.ring_slab.specs.Slots.{items, hashes}
+use Rattle.ring_slab.proofs.Counts.{one_at, count_head}
 use Rattle.shard.specs.declared.entry.Entry.{Entry}
 use Rattle.shard.specs.declared.entry.Entry.TheVariants as E
 use Rattle.shard.specs.declared.entry.Resident.{Resident}

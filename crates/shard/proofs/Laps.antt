@@ -3,15 +3,15 @@ use Rattle.std.proofs.Common.{◌≡◌, ℕ, zero, suc, ◌+◌, ◌-◌, ◌<�
 use Rattle.std.proofs.lemmas.List.{append-nil, append_assoc, length-append, length-map, length_push, length-set, get_or-set_same, get_or-set_other, get_or-map, map-set, set-get_or}
 use Rattle.std.proofs.lemmas.Bool.{cases_eq, ltb-false, or_parts, or_left, or_right, or_from, lt-ltb, le-ltb, not-false}
 use Rattle.model.specs.Lists.{sum_of, every, mapped}
-use Rattle.slab.specs.Places.{look, count}
-use Rattle.slab.specs.Slots.{buckets, chains, nexts, prevs, hashes, items, item_at}
-use Rattle.slab.specs.Rings.{Cycle, Ring, walk}
-use Rattle.slab.specs.Holding.{SameLinks}
-use Rattle.slab.specs.Calls.{slots_of}
-use Rattle.slab.specs.declared.slots.Slot.{Slot}
-use Rattle.slab.specs.declared.linked_slab.LinkedSlab.{LinkedSlab}
-use Rattle.slab.proofs.Counts.{one_at, one_off, count_append, count_head}
-use Rattle.slab.proofs.Rings.{turned}
+use Rattle.ring_slab.specs.Places.{look, count}
+use Rattle.ring_slab.specs.Slots.{buckets, chains, nexts, prevs, hashes, items, item_at}
+use Rattle.ring_slab.specs.Rings.{Cycle, Ring, walk}
+use Rattle.ring_slab.specs.Holding.{SameLinks}
+use Rattle.ring_slab.specs.Calls.{slots_of}
+use Rattle.ring_slab.specs.declared.slots.Slot.{Slot}
+use Rattle.ring_slab.specs.declared.linked_slab.LinkedSlab.{LinkedSlab}
+use Rattle.ring_slab.proofs.Counts.{one_at, one_off, count_append, count_head}
+use Rattle.ring_slab.proofs.Rings.{turned}
 use Rattle.shard.specs.declared.entry.Entry.{Entry}
 use Rattle.shard.specs.declared.entry.Entry.TheVariants as E
 use Rattle.shard.specs.declared.entry.Resident.{Resident}

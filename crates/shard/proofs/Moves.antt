@@ -2,20 +2,20 @@
 use Rattle.std.proofs.Common.{◌≡◌, ℕ, zero, suc, ◌+◌, ◌-◌, ◌<◌, ◌≤◌, ◌⊎◌, List, [], ◌∷◌, ◌++◌, length, get_or, set, Some, None, Option, sym, refl, ap, ◌∙◌, subst, inl, inr, ⊎_elim, arith}
 use Rattle.std.proofs.lemmas.List.{length-append, length-map, append-nil, get_or_past, get_or-set_same, get_or-set_other}
 use Rattle.std.proofs.lemmas.Bool.{cases_lt, cases_eq}
-use Rattle.slab.specs.Places.{one, count, count_in, head_of, front, rest, upto}
-use Rattle.slab.specs.Slots.{items, item_at, hashes}
-use Rattle.slab.specs.Rings.{ring_from, Linked, Linkable}
-use Rattle.slab.specs.Chains.{Chained}
-use Rattle.slab.specs.Holding.{Holds}
-use Rattle.slab.specs.Calls.{slots_of, Held, Fresh, Takes, Frees, Links, Unlinks, Enters, Leaves, Stores}
-use Rattle.slab.specs.declared.slots.Slot.{Slot}
-use Rattle.slab.specs.declared.linked_slab.LinkedSlab.{LinkedSlab}
-use Rattle.slab.proofs.Counts.{one_at, one_off, count_append, count_less, count_turned, count_in_append, split_at, placed_length}
-use Rattle.slab.proofs.Writes.{ring_turned}
-use Rattle.slab.proofs.Chains.{count_upto}
+use Rattle.ring_slab.specs.Places.{one, count, count_in, head_of, front, rest, upto}
+use Rattle.ring_slab.specs.Slots.{items, item_at, hashes}
+use Rattle.ring_slab.specs.Rings.{ring_from, Linked, Linkable}
+use Rattle.ring_slab.specs.Chains.{Chained}
+use Rattle.ring_slab.specs.Holding.{Holds}
+use Rattle.ring_slab.specs.Calls.{slots_of, Held, Fresh, Takes, Frees, Links, Unlinks, Enters, Leaves, Stores}
+use Rattle.ring_slab.specs.declared.slots.Slot.{Slot}
+use Rattle.ring_slab.specs.declared.linked_slab.LinkedSlab.{LinkedSlab}
+use Rattle.ring_slab.proofs.Counts.{one_at, one_off, count_append, count_less, count_turned, count_in_append, split_at, placed_length}
+use Rattle.ring_slab.proofs.Writes.{ring_turned}
+use Rattle.ring_slab.proofs.Chains.{count_upto}
 use Rattle.settings.specs.declared.options.Settings.{Settings}
 use Rattle.model.specs.Lists.{sum_of}
-use Rattle.slab.proofs.Holding as holding
+use Rattle.ring_slab.proofs.Holding as holding
 use Rattle.shard.specs.declared.entry.Entry.{Entry}
 use Rattle.shard.specs.declared.ring.Ring.{Ring}
 use Rattle.shard.specs.declared.ring.RingName.{RingName}

@@ -9,9 +9,9 @@ use Rattle.model.specs.Entries as model
 use Rattle.model.specs.Hands.{shrink}
 use Rattle.model.specs.Calls as calls
 use Rattle.model.specs.Calls.{State}
-use Rattle.slab.specs.Places.{count, look, head_of, front, rest}
-use Rattle.slab.specs.Slots.{items, hashes}
-use Rattle.slab.proofs.Counts.{one_at}
+use Rattle.ring_slab.specs.Places.{count, look, head_of, front, rest}
+use Rattle.ring_slab.specs.Slots.{items, hashes}
+use Rattle.ring_slab.proofs.Counts.{one_at}
 use Rattle.shard.specs.declared.entry.Resident.{Resident}
 use Rattle.shard.specs.declared.entry.Entry.{Entry}
 use Rattle.shard.specs.declared.entry.Entry.TheVariants as E

@@ -5,13 +5,13 @@ use mathlib.Core.Logic.{∥∥₁_elim}
 use base.Stored.{Coded, coded_ℕ, coded×, coded_via}
 use denote.Struct.Props.{≡_prop, props}
 use Rattle.std.proofs.lemmas.Bool.{both_ways}
-use Rattle.slab.specs.Places.{look, count, count_in}
-use Rattle.slab.specs.Slots.{buckets, chains, nexts, prevs, item_at}
-use Rattle.slab.specs.Rings as rings
-use Rattle.slab.specs.Rings.{Run, Cycle}
-use Rattle.slab.specs.Chains.{Chain, chain, Ends, Table, home_of}
-use Rattle.slab.specs.Holding.{total, Rings, Holds}
-use Rattle.slab.specs.declared.slots.Slot.{Slot}
+use Rattle.ring_slab.specs.Places.{look, count, count_in}
+use Rattle.ring_slab.specs.Slots.{buckets, chains, nexts, prevs, item_at}
+use Rattle.ring_slab.specs.Rings as rings
+use Rattle.ring_slab.specs.Rings.{Run, Cycle}
+use Rattle.ring_slab.specs.Chains.{Chain, chain, Ends, Table, home_of}
+use Rattle.ring_slab.specs.Holding.{total, Rings, Holds}
+use Rattle.ring_slab.specs.declared.slots.Slot.{Slot}
 use Rattle.shard.specs.declared.ring.Ring.{Ring}
 use Rattle.shard.specs.declared.ring.RingName.TheVariants.{Hot, Cold, Ghosts}
 use Rattle.shard.specs.declared.tally.Tally.{Tally}

@@ -6,12 +6,12 @@ use Rattle.model.specs.Lists.{sum_of, mapped, Pick, nothing, here, pick, when, o
 use Rattle.model.specs.Entries as model
 use Rattle.model.specs.Calls as calls
 use Rattle.model.specs.Standing.{matches}
-use Rattle.slab.specs.Places.{look, count}
-use Rattle.slab.specs.Slots.{hashes}
-use Rattle.slab.specs.Chains.{bucket_of, chain_of}
-use Rattle.slab.specs.declared.slots.Slot.{Slot}
-use Rattle.slab.proofs.Counts.{one_at, one_off, count_append, split_at}
-use Rattle.slab.proofs.Holding.{entered_is}
+use Rattle.ring_slab.specs.Places.{look, count}
+use Rattle.ring_slab.specs.Slots.{hashes}
+use Rattle.ring_slab.specs.Chains.{bucket_of, chain_of}
+use Rattle.ring_slab.specs.declared.slots.Slot.{Slot}
+use Rattle.ring_slab.proofs.Counts.{one_at, one_off, count_append, split_at}
+use Rattle.ring_slab.proofs.Holding.{entered_is}
 use Rattle.shard.specs.declared.entry.Entry.{Entry}
 use Rattle.shard.specs.declared.entry.Entry.TheVariants as E
 use Rattle.shard.specs.declared.entry.ResidentState.{ResidentState}

@@ -5,9 +5,9 @@ use Rattle.std.proofs.lemmas.Bool.{cases_lt}
 use Rattle.interface.specs.Meaning.{Keying}
 use Rattle.model.specs.Lists.{sum_of, mapped}
 use Rattle.model.specs.Entries as model
-use Rattle.slab.specs.Places.{count, upto}
-use Rattle.slab.proofs.Counts.{count_append}
-use Rattle.slab.proofs.Chains.{count_upto, length_upto}
+use Rattle.ring_slab.specs.Places.{count, upto}
+use Rattle.ring_slab.proofs.Counts.{count_append}
+use Rattle.ring_slab.proofs.Chains.{count_upto, length_upto}
 use Rattle.shard.specs.declared.cache_shard.CacheShard.{CacheShard}
 use Rattle.shard.specs.Layout.{Places, slots, entry_at, hash_at}
 use Rattle.shard.specs.Shows.{plain, waiting, Shows}

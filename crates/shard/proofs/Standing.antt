@@ -2,16 +2,16 @@
 use Rattle.std.proofs.Common.{◌≡◌, ℕ, ◌+◌, ◌^◌, ◌<◌, ◌≤◌, true, List, [], ◌∷◌, ◌++◌, length, get_or, is_some, Some, None, sym, refl, ap, ◌∙◌, subst, ⊎_elim, arith}
 use Rattle.std.proofs.lemmas.List.{length-map, get_or_past}
 use Rattle.std.proofs.lemmas.Bool.{cases_lt, cases_eq, both_ways}
-use Rattle.slab.specs.Places.{one, count, head_of, upto}
-use Rattle.slab.specs.Slots.{items}
-use Rattle.slab.specs.Rings as rings
-use Rattle.slab.specs.Rings.{ring_from}
-use Rattle.slab.specs.Holding.{Holds, SameLinks}
-use Rattle.slab.specs.declared.slots.Slot.{Slot}
-use Rattle.slab.proofs.Counts.{one_off, count_append, count_less}
-use Rattle.slab.proofs.Chains.{count_upto}
-use Rattle.slab.proofs.Holding as holding
-use Rattle.slab.proofs.Changes.{same_links}
+use Rattle.ring_slab.specs.Places.{one, count, head_of, upto}
+use Rattle.ring_slab.specs.Slots.{items}
+use Rattle.ring_slab.specs.Rings as rings
+use Rattle.ring_slab.specs.Rings.{ring_from}
+use Rattle.ring_slab.specs.Holding.{Holds, SameLinks}
+use Rattle.ring_slab.specs.declared.slots.Slot.{Slot}
+use Rattle.ring_slab.proofs.Counts.{one_off, count_append, count_less}
+use Rattle.ring_slab.proofs.Chains.{count_upto}
+use Rattle.ring_slab.proofs.Holding as holding
+use Rattle.ring_slab.proofs.Changes.{same_links}
 use Rattle.shard.specs.declared.entry.Entry.{Entry}
 use Rattle.shard.specs.declared.ring.Ring.{Ring}
 use Rattle.shard.specs.declared.ring.RingName.{RingName}

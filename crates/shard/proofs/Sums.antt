@@ -6,10 +6,10 @@ use Rattle.interface.specs.Meaning.{Keying}
 use Rattle.model.specs.Lists.{sum_of, mapped}
 use Rattle.model.specs.Entries as model
 use Rattle.model.proofs.Lists.{sum_append}
-use Rattle.slab.specs.Places.{count, one}
-use Rattle.slab.specs.Slots.{items}
-use Rattle.slab.specs.Holding.{total}
-use Rattle.slab.proofs.Counts.{one_at, one_off, count_append, count_head}
+use Rattle.ring_slab.specs.Places.{count, one}
+use Rattle.ring_slab.specs.Slots.{items}
+use Rattle.ring_slab.specs.Holding.{total}
+use Rattle.ring_slab.proofs.Counts.{one_at, one_off, count_append, count_head}
 use Rattle.shard.specs.declared.entry.Entry.{Entry}
 use Rattle.shard.specs.declared.entry.Entry.TheVariants as E
 use Rattle.shard.specs.declared.entry.ResidentState.{ResidentState}

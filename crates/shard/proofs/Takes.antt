@@ -5,11 +5,11 @@ use Rattle.interface.specs.Meaning.{Keying}
 use Rattle.model.specs.Lists.{mapped, every, Pick, nothing, here}
 use Rattle.model.specs.Entries as model
 use Rattle.model.specs.Hands.{Context, pinned, hot_stop}
-use Rattle.slab.specs.Places.{look, count}
-use Rattle.slab.specs.Slots.{nexts, items, hashes}
-use Rattle.slab.specs.Rings.{Ring, ring_from, walk}
-use Rattle.slab.specs.declared.linked_slab.LinkedSlab.{LinkedSlab}
-use Rattle.slab.proofs.Counts.{split_at}
+use Rattle.ring_slab.specs.Places.{look, count}
+use Rattle.ring_slab.specs.Slots.{nexts, items, hashes}
+use Rattle.ring_slab.specs.Rings.{Ring, ring_from, walk}
+use Rattle.ring_slab.specs.declared.linked_slab.LinkedSlab.{LinkedSlab}
+use Rattle.ring_slab.proofs.Counts.{split_at}
 use Rattle.shard.specs.declared.entry.Entry.{Entry}
 use Rattle.shard.specs.declared.entry.Entry.TheVariants as E
 use Rattle.shard.specs.declared.ring.RingName.TheVariants.{Hot}

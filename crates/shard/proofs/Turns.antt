@@ -9,9 +9,9 @@ use Rattle.model.specs.Entries as model
 use Rattle.model.specs.Hands.{hot_stop, hot_found, hot_hand, cold_stop, cold_found, cold_hand, evict, cool}
 use Rattle.model.specs.Calls.{context}
 use Rattle.model.specs.Requests.{state_after, policy}
-use Rattle.slab.specs.Places.{count, head_of}
-use Rattle.slab.specs.Slots.{items, hashes}
-use Rattle.slab.proofs.Counts.{count_append, count_head}
+use Rattle.ring_slab.specs.Places.{count, head_of}
+use Rattle.ring_slab.specs.Slots.{items, hashes}
+use Rattle.ring_slab.proofs.Counts.{count_append, count_head}
 use Rattle.shard.specs.declared.entry.Entry.{Entry}
 use Rattle.shard.specs.declared.entry.Entry.TheVariants as E
 use Rattle.shard.specs.declared.entry.Resident.{Resident}

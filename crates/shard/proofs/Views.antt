@@ -5,9 +5,9 @@ use Rattle.std.proofs.lemmas.Bool.{cases_eq}
 use Rattle.interface.specs.Meaning.{Keying}
 use Rattle.model.specs.Lists.{every, mapped}
 use Rattle.model.specs.Entries as model
-use Rattle.slab.specs.Places.{count, one, look}
-use Rattle.slab.specs.Slots.{items, hashes}
-use Rattle.slab.proofs.Counts.{count_append, count_head}
+use Rattle.ring_slab.specs.Places.{count, one, look}
+use Rattle.ring_slab.specs.Slots.{items, hashes}
+use Rattle.ring_slab.proofs.Counts.{count_append, count_head}
 use Rattle.shard.specs.declared.entry.Entry.{Entry}
 use Rattle.shard.specs.declared.cache_shard.CacheShard.{CacheShard}
 use Rattle.shard.specs.Layout.{Places, slots, entry_at, hash_at, ringed, loosed, freed, Stands, SameEntries}

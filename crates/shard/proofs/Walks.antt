@@ -7,12 +7,12 @@ use Rattle.model.specs.Entries as model
 use Rattle.model.specs.Hands.{Context, pinned, hot_walk, walk_steps, hot_stop, cold_stop}
 use Rattle.model.proofs.Lookup.{pick_none, pick_first}
 use Rattle.model.proofs.Walks.{reads_of as reads_in, Hit, hits, not_every, front_lt, walk_pass, walk_hit, mapped_pinned}
-use Rattle.slab.specs.Places.{look, count}
-use Rattle.slab.specs.Slots.{nexts, item_at}
-use Rattle.slab.specs.Rings.{Ring, walk}
-use Rattle.slab.specs.Holding.{SameLinks}
-use Rattle.slab.specs.declared.slots.Slot.{Slot}
-use Rattle.slab.proofs.Counts.{count_append, count_head}
+use Rattle.ring_slab.specs.Places.{look, count}
+use Rattle.ring_slab.specs.Slots.{nexts, item_at}
+use Rattle.ring_slab.specs.Rings.{Ring, walk}
+use Rattle.ring_slab.specs.Holding.{SameLinks}
+use Rattle.ring_slab.specs.declared.slots.Slot.{Slot}
+use Rattle.ring_slab.proofs.Counts.{count_append, count_head}
 use Rattle.shard.specs.declared.entry.Entry.{Entry}
 use Rattle.shard.specs.declared.lap.Lap.{Lap}
 use Rattle.shard.specs.declared.lap.Lap.TheVariants as L

@@ -3,7 +3,7 @@ use Rattle.std.specs.Prelude.{◌≡◌, ℕ, ◌+◌, List, [], ◌∷◌, Some
 use Rattle.interface.specs.Meaning.{Keying}
 use Rattle.model.specs.Lists.{mapped}
 use Rattle.model.specs.Entries as model
-use Rattle.slab.specs.Places.{count}
+use Rattle.ring_slab.specs.Places.{count}
 use Rattle.shard.specs.declared.entry.Entry.{Entry}
 use Rattle.shard.specs.declared.cache_shard.CacheShard.{CacheShard}
 use Rattle.shard.specs.Layout.{Places, entry_at, hash_at, Stands}

@@ -7,12 +7,12 @@ use Rattle.model.specs.Lists.{sum_of, every, mapped, tail, Pick, nothing, here, 
 use Rattle.model.specs.Entries as model
 use Rattle.model.specs.Hands.{Context, hot_stop, evict, cool}
 use Rattle.model.specs.Requests.{state_after}
-use Rattle.slab.specs.Places.{count}
-use Rattle.slab.specs.Slots.{items, item_at}
-use Rattle.slab.specs.Holding.{SameLinks}
-use Rattle.slab.specs.Calls.{slots_of}
-use Rattle.slab.specs.declared.slots.Slot.{Slot}
-use Rattle.slab.specs.declared.linked_slab.LinkedSlab.{LinkedSlab}
+use Rattle.ring_slab.specs.Places.{count}
+use Rattle.ring_slab.specs.Slots.{items, item_at}
+use Rattle.ring_slab.specs.Holding.{SameLinks}
+use Rattle.ring_slab.specs.Calls.{slots_of}
+use Rattle.ring_slab.specs.declared.slots.Slot.{Slot}
+use Rattle.ring_slab.specs.declared.linked_slab.LinkedSlab.{LinkedSlab}
 use Rattle.shard.specs.declared.entry.Entry.{Entry}
 use Rattle.shard.specs.declared.entry.Entry.TheVariants.{Resident, Placeholder, Ghost}
 use Rattle.shard.specs.declared.entry.Resident as R

@@ -1,12 +1,12 @@
 -- Where the entries of a shard lie: in a ring, off the rings, in hand while a call moves them, or nowhere, where the
 -- slot is free.
 use Rattle.std.specs.Prelude.{◌≡◌, ℕ, ◌^◌, ◌<◌, ◌≤◌, cond, List, [], ◌∷◌, ◌++◌, length, Some, None, Option, ◌==◌}
-use Rattle.slab.specs.Places.{look, count, head_of, upto}
-use Rattle.slab.specs.Slots.{items, item_at, hashes}
-use Rattle.slab.specs.Rings.{ring_from}
-use Rattle.slab.specs.Chains.{free_of}
-use Rattle.slab.specs.Calls.{slots_of, Held}
-use Rattle.slab.specs.declared.slots.Slot.{Slot}
+use Rattle.ring_slab.specs.Places.{look, count, head_of, upto}
+use Rattle.ring_slab.specs.Slots.{items, item_at, hashes}
+use Rattle.ring_slab.specs.Rings.{ring_from}
+use Rattle.ring_slab.specs.Chains.{free_of}
+use Rattle.ring_slab.specs.Calls.{slots_of, Held}
+use Rattle.ring_slab.specs.declared.slots.Slot.{Slot}
 use Rattle.shard.specs.declared.entry.Entry.{Entry}
 use Rattle.shard.specs.declared.entry.Entry.TheVariants.{Resident, Placeholder, Ghost}
 use Rattle.shard.specs.declared.ring.Ring.{Ring}

@@ -1,6 +1,6 @@
 -- What the functions that link, fill and free slots do to the places. The shard is x before and x' after.
 use Rattle.std.specs.Prelude.{◌≡◌, ℕ, ◌≤◌, ◌⊎◌, List, [], ◌∷◌, ◌++◌, Some, None, Option}
-use Rattle.slab.specs.Places.{count, head_of, front, rest}
+use Rattle.ring_slab.specs.Places.{count, head_of, front, rest}
 use Rattle.shard.specs.declared.entry.Entry.{Entry}
 use Rattle.shard.specs.declared.ring.RingName.{RingName}
 use Rattle.shard.specs.declared.cache_shard.CacheShard.{CacheShard}

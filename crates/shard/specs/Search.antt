@@ -1,11 +1,11 @@
 -- What the walks of a search answer. It is about the slots and the entries in them alone.
 use Rattle.std.specs.Prelude.{◌≡◌, ℕ, ◌≤◌, Bool, true, false, cond, ◌⊎◌, List, [], ◌∷◌, Some, None, Option, ◌==◌}
 use Rattle.interface.specs.Meaning.{Keying}
-use Rattle.slab.specs.Places.{look, count}
-use Rattle.slab.specs.Slots.{hashes, item_at}
-use Rattle.slab.specs.Calls.{Held}
-use Rattle.slab.specs.declared.slots.Slot.{Slot}
-use Rattle.slab.specs.declared.linked_slab.LinkedSlab.{LinkedSlab}
+use Rattle.ring_slab.specs.Places.{look, count}
+use Rattle.ring_slab.specs.Slots.{hashes, item_at}
+use Rattle.ring_slab.specs.Calls.{Held}
+use Rattle.ring_slab.specs.declared.slots.Slot.{Slot}
+use Rattle.ring_slab.specs.declared.linked_slab.LinkedSlab.{LinkedSlab}
 use Rattle.shard.specs.declared.entry.Entry.{Entry}
 use Rattle.shard.specs.declared.entry.Entry.TheVariants.{Resident, Placeholder, Ghost}
 use Rattle.shard.specs.declared.found.Sighting.{Sighting}

@@ -8,7 +8,7 @@ use Rattle.model.specs.Entries as model
 use Rattle.model.specs.Hands.{Context}
 use Rattle.model.specs.Requests.{state_after, policy}
 use Rattle.model.specs.Calls as calls
-use Rattle.slab.specs.Places.{count}
+use Rattle.ring_slab.specs.Places.{count}
 use Rattle.shard.specs.declared.entry.Entry.{Entry}
 use Rattle.shard.specs.declared.entry.Entry.TheVariants as E
 use Rattle.shard.specs.declared.entry.ResidentState.{ResidentState}

@@ -1,8 +1,8 @@
 use crate::entry::Entry;
 use crate::ring::Ring;
 use crate::tally::Tally;
+use ring_slab::linked_slab::LinkedSlab;
 use settings::Settings;
-use slab::linked_slab::LinkedSlab;
 
 // The shard: its slots, the rings in them, and what is counted of them. The cache above it keeps it sound.
 #[derive(Drop)]

@@ -1,6 +1,6 @@
 // Counting entries: one more, one less, and all of them again.
 ghost use Rattle.std.specs.Prelude.{◌≡◌, ℕ, ◌+◌, ◌^◌, ◌<◌, ◌≤◌, [], length, Some, None};
-ghost use Rattle.slab.specs.Slots.{items};
+ghost use Rattle.ring_slab.specs.Slots.{items};
 ghost use Rattle.shard.specs.Tallies.{hot_one, cold_one, ghost_one, hot_share, cold_share, recounted, counted_in};
 ghost use Rattle.shard.specs.Layout.{slots, Sound};
 

@@ -1,11 +1,11 @@
 // The two clock hands.
 ghost use Rattle.std.specs.Prelude.{◌≡◌, ℕ, ◌+◌, ◌<◌, ◌≤◌, true, false, not, [], ◌∷◌, length, IfSome, Some, slice_set};
 ghost use Rattle.model.specs.Hands.{evict as evicted, hot_hand, cold_hand, cool as cooled, shrink as shrunk};
-ghost use Rattle.slab.specs.Places.{look, count};
-ghost use Rattle.slab.specs.Slots.{nexts, items, item_at};
-ghost use Rattle.slab.specs.Rings.{Ring as IsRing, walk};
-ghost use Rattle.slab.specs.Holding.{SameLinks};
-ghost use Rattle.slab.specs.Calls.{slots_of};
+ghost use Rattle.ring_slab.specs.Places.{look, count};
+ghost use Rattle.ring_slab.specs.Slots.{nexts, items, item_at};
+ghost use Rattle.ring_slab.specs.Rings.{Ring as IsRing, walk};
+ghost use Rattle.ring_slab.specs.Holding.{SameLinks};
+ghost use Rattle.ring_slab.specs.Calls.{slots_of};
 ghost use Rattle.shard.specs.declared.entry.Entry.TheVariants as E;
 ghost use Rattle.shard.specs.declared.ring.RingName.TheVariants.{Hot, Cold};
 ghost use Rattle.shard.specs.Layout.{in_ring, kind_of, slots as slotsIn, entry_at, ring_places, Sound};
@@ -17,8 +17,8 @@ use crate::entry::{Entry, Resident, ResidentState};
 use crate::lap::{Lap, Met};
 use crate::ring::RingName;
 use interface::{Lifecycle, Weighter};
-use slab::linked_slab::LinkedSlab;
-use slab::slots::Slot;
+use ring_slab::linked_slab::LinkedSlab;
+use ring_slab::slots::Slot;
 
 // Takes a read from a resident, if it has one.
 fn touch_entry<K: Copy, V: Copy, L: Lifecycle<K, V>>(entry: &mut Entry<K, V>, life: &L) -> Met

@@ -1,9 +1,9 @@
 // Moving entries between the rings, and the counts that go with what is written. Nothing else in the crate links a
 // slot, fills one or frees one.
 ghost use Rattle.std.specs.Prelude.{◌≡◌, ℕ, ◌<◌, ◌≤◌, [], ◌∷◌, length, Some, None, slice_set};
-ghost use Rattle.slab.specs.Places.{count};
-ghost use Rattle.slab.specs.Slots.{items, hashes};
-ghost use Rattle.slab.specs.Calls.{set_if};
+ghost use Rattle.ring_slab.specs.Places.{count};
+ghost use Rattle.ring_slab.specs.Slots.{items, hashes};
+ghost use Rattle.ring_slab.specs.Calls.{set_if};
 ghost use Rattle.shard.specs.Layout.{slots, ring as ring_from, with_ring, in_ring, kind_of, entry_at, ring_places, Counted, Sound, SameEntries};
 ghost use Rattle.shard.specs.Moves.{handed, Appends, TurnsOut, Deletes, Occupies, Overwrites, Releases};
 ghost use Rattle.shard.specs.Steps.{SameTerms};

@@ -3,7 +3,7 @@ ghost use Rattle.std.specs.Prelude.{◌≡◌, suc, [], length};
 ghost use Rattle.settings.specs.Standing.{limits};
 ghost use Rattle.model.specs.Calls as calls;
 ghost use Rattle.model.specs.Requests.{policy};
-ghost use Rattle.slab.specs.Slots.{items};
+ghost use Rattle.ring_slab.specs.Slots.{items};
 ghost use Rattle.shard.specs.Tallies.{recounted};
 ghost use Rattle.shard.specs.Layout.{slots as slots_of};
 ghost use Rattle.shard.specs.Depicts.{Depicts, Follows, FollowsPlainly};
@@ -16,9 +16,9 @@ use crate::ring::Ring;
 use crate::strategy::{InsertStrategy, Returned};
 use crate::tally::Tally;
 use interface::{Key, Lifecycle, Weighter};
+use ring_slab::linked_slab::LinkedSlab;
+use ring_slab::slots::Slot;
 use settings::Settings;
-use slab::linked_slab::LinkedSlab;
-use slab::slots::Slot;
 
 impl<'a, K: Key, V: Copy> Cache<'a, K, V> {
     // A fresh cache over the first 1,048,576 slots of a slice, or all of it, whatever the slots hold.

@@ -1,10 +1,10 @@
 // Finding a key.
 ghost use Rattle.std.specs.Prelude.{◌≡◌, ℕ, ◌<◌, ◌≤◌, [], length};
-ghost use Rattle.slab.specs.Places.{look, count};
-ghost use Rattle.slab.specs.Slots.{nexts, item_at};
-ghost use Rattle.slab.specs.Rings.{walk};
-ghost use Rattle.slab.specs.Chains.{bucket_of, chain_of};
-ghost use Rattle.slab.specs.Calls.{slots_of};
+ghost use Rattle.ring_slab.specs.Places.{look, count};
+ghost use Rattle.ring_slab.specs.Slots.{nexts, item_at};
+ghost use Rattle.ring_slab.specs.Rings.{walk};
+ghost use Rattle.ring_slab.specs.Chains.{bucket_of, chain_of};
+ghost use Rattle.ring_slab.specs.Calls.{slots_of};
 ghost use Rattle.shard.specs.Layout.{slots, ring_places, Sound};
 ghost use Rattle.shard.specs.declared.ring.RingName.TheVariants.{Ghosts};
 ghost use Rattle.shard.specs.Search.{Kept, keyed_by, ghostly, one_more, first_with, Sights, LeadsTo};
@@ -14,7 +14,7 @@ use crate::cache_shard::CacheShard;
 use crate::entry::Entry;
 use crate::found::{Found, Sighting};
 use interface::Key;
-use slab::linked_slab::LinkedSlab;
+use ring_slab::linked_slab::LinkedSlab;
 
 // Is the entry at `at` one of this key?
 fn has_key<K: Key, V: Copy>(slab: &LinkedSlab<'_, Entry<K, V>>, at: u32, key: &K) -> bool

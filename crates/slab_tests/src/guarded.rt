@@ -1,5 +1,5 @@
 // The calls of a slab of numbers, each made only where what it asks is seen to hold.
-use slab::linked_slab::LinkedSlab;
+use ring_slab::linked_slab::LinkedSlab;
 
 pub fn take(slab: &mut LinkedSlab<'_, u32>, item: u32) -> Option<u32> {
     if slab.len() > 1_048_576 {

@@ -1,5 +1,5 @@
-use slab::linked_slab::LinkedSlab;
-use slab::slots::Slot;
+use ring_slab::linked_slab::LinkedSlab;
+use ring_slab::slots::Slot;
 
 // Two places are entered under one hash, and the first of their chain leaves: the first before and after.
 pub fn first_leaves() -> [Option<u32>; 2] {

@@ -1,7 +1,7 @@
 use crate::guarded::{after, append, enter, first, free, item, next_of, start, take, unlink};
 use crate::leaving::first_leaves;
-use slab::linked_slab::LinkedSlab;
-use slab::slots::Slot;
+use ring_slab::linked_slab::LinkedSlab;
+use ring_slab::slots::Slot;
 use std::test::Fail;
 
 #[test]

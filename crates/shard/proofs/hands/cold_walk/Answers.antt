@@ -1,8 +1,8 @@
 use Rattle.std.proofs.Common.{sym, ◌∙◌, arith}
-use Rattle.slab.specs.Places.{look}
-use Rattle.slab.specs.Slots.{nexts}
-use Rattle.slab.specs.Rings.{walk}
-use Rattle.slab.specs.Calls.{slots_of}
+use Rattle.ring_slab.specs.Places.{look}
+use Rattle.ring_slab.specs.Slots.{nexts}
+use Rattle.ring_slab.specs.Rings.{walk}
+use Rattle.ring_slab.specs.Calls.{slots_of}
 use Rattle.shard.proofs.Laps.{walk_length, walk_leads, standing, cooling_start, cooling_on, cooling_stop, cooling_end}
 use Rattle.shard.proofs.hands.cold_walk.Goals as goal
 

@@ -1,7 +1,7 @@
-use Rattle.slab.specs.Places.{look}
-use Rattle.slab.specs.Slots.{nexts}
-use Rattle.slab.specs.Rings.{walk}
-use Rattle.slab.specs.Calls.{slots_of}
+use Rattle.ring_slab.specs.Places.{look}
+use Rattle.ring_slab.specs.Slots.{nexts}
+use Rattle.ring_slab.specs.Rings.{walk}
+use Rattle.ring_slab.specs.Calls.{slots_of}
 use Rattle.shard.proofs.Laps.{Cooling}
 use Rattle.shard.proofs.hands.cold_walk.Given as goal
 

@@ -1,8 +1,8 @@
 use Rattle.std.proofs.Common.{◌+◌, Bool, true, false, sym, ◌∙◌, subst, arith}
-use Rattle.slab.specs.Places.{look}
-use Rattle.slab.specs.Slots.{nexts}
-use Rattle.slab.specs.Rings.{walk}
-use Rattle.slab.specs.Calls.{slots_of}
+use Rattle.ring_slab.specs.Places.{look}
+use Rattle.ring_slab.specs.Slots.{nexts}
+use Rattle.ring_slab.specs.Rings.{walk}
+use Rattle.ring_slab.specs.Calls.{slots_of}
 use Rattle.shard.proofs.Laps.{Mid, and_true, and_false, walk_length, walk_leads, standing, shape_refl, shape_trans, mid_start, mid_more, mid_stop, mid_unpinned, mid_pinned}
 use Rattle.shard.proofs.hands.hot_lap.Goals as goal
 use Rattle.shard.proofs.hands.hot_lap.Goals.{in-Unpinned, in-Pinned}

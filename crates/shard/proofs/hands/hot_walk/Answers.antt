@@ -1,7 +1,7 @@
-use Rattle.slab.specs.Places.{look}
-use Rattle.slab.specs.Slots.{nexts}
-use Rattle.slab.specs.Rings.{walk}
-use Rattle.slab.specs.Calls.{slots_of}
+use Rattle.ring_slab.specs.Places.{look}
+use Rattle.ring_slab.specs.Slots.{nexts}
+use Rattle.ring_slab.specs.Rings.{walk}
+use Rattle.ring_slab.specs.Calls.{slots_of}
 use Rattle.shard.proofs.Laps.{shape_refl, shape_trans}
 use Rattle.shard.proofs.Walks.{round_start, round_lap, round_none, round_stop}
 use Rattle.shard.proofs.hands.hot_walk.Goals as goal

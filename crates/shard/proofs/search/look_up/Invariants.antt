@@ -1,6 +1,6 @@
 use Rattle.std.proofs.Common.{length}
-use Rattle.slab.specs.Chains.{rest_of}
-use Rattle.slab.specs.Calls.{slots_of}
+use Rattle.ring_slab.specs.Chains.{rest_of}
+use Rattle.ring_slab.specs.Calls.{slots_of}
 use Rattle.shard.proofs.Chains.{Walked}
 use Rattle.shard.proofs.search.look_up.Given as goal
 

@@ -1,4 +1,4 @@
-use Rattle.slab.specs.Calls.{slots_of}
+use Rattle.ring_slab.specs.Calls.{slots_of}
 use Rattle.shard.proofs.Chains.{Turning}
 use Rattle.shard.proofs.search.oldest_ghost.Given as goal
 

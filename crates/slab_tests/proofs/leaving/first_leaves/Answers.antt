@@ -1,9 +1,9 @@
 -- What the slab holds, call by call, with the lists written out.
 use Rattle.std.proofs.Common.{◌≡◌, [], ◌∷◌, refl, subst, arith}
-use Rattle.slab.specs.Places.{count, upto}
-use Rattle.slab.specs.Calls.{Held}
-use Rattle.slab.proofs.Counts.{one_at, one_off}
-use Rattle.slab.proofs.Holding.{chained}
+use Rattle.ring_slab.specs.Places.{count, upto}
+use Rattle.ring_slab.specs.Calls.{Held}
+use Rattle.ring_slab.proofs.Counts.{one_at, one_off}
+use Rattle.ring_slab.proofs.Holding.{chained}
 use Rattle.slab_tests.proofs.leaving.first_leaves.Goals as goal
 
 pub take-requires : goal.take-requires

@@ -1,10 +1,10 @@
 -- The place in hand becomes the last of its ring.
 use Rattle.std.proofs.Common.{◌≡◌, ◌+◌, [], Some, sym, ap, subst, arith}
 use mir.Facts.{Fits-below}
-use Rattle.slab.specs.Slots.{hashes}
-use Rattle.slab.specs.Calls.{slots_of}
-use Rattle.slab.proofs.Counts.{count_head}
-use Rattle.slab.specs.Rings.{Linkable}
+use Rattle.ring_slab.specs.Slots.{hashes}
+use Rattle.ring_slab.specs.Calls.{slots_of}
+use Rattle.ring_slab.proofs.Counts.{count_head}
+use Rattle.ring_slab.specs.Rings.{Linkable}
 use Rattle.shard.specs.Layout.{slots}
 use Rattle.shard.proofs.Standing.{hand_below}
 use Rattle.shard.proofs.Moves.{can_link, ring_size, append_places, append_sound, relinked_entries}

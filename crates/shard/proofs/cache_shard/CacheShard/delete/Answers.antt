@@ -1,8 +1,8 @@
 -- The place leaves its ring; the head moves on only where it was that place.
 use Rattle.std.proofs.Common.{◌≡◌, ℕ, ◌-◌, [], Some, refl, ◌∙◌}
 use Rattle.std.proofs.lemmas.Bool.{both_ways}
-use Rattle.slab.specs.Slots.{hashes}
-use Rattle.slab.specs.Calls.{slots_of}
+use Rattle.ring_slab.specs.Slots.{hashes}
+use Rattle.ring_slab.specs.Calls.{slots_of}
 use Rattle.shard.specs.Layout.{slots}
 use Rattle.shard.proofs.Counts.{test_of}
 use Rattle.shard.proofs.Moves.{ring_some, in_places, can_unlink, delete_places, delete_sound, relinked_entries}

@@ -1,7 +1,7 @@
 -- What is counted so far is bounded by the slots; the last turn has gone over all of them.
 use Rattle.std.proofs.Common.{sym, ap, ◌∙◌, subst, arith}
 use Rattle.std.proofs.lemmas.List.{length-map, take_all}
-use Rattle.slab.specs.Slots.{items}
+use Rattle.ring_slab.specs.Slots.{items}
 use Rattle.shard.specs.Tallies.{recounted}
 use Rattle.shard.specs.Layout.{slots}
 use Rattle.shard.proofs.Tallies.{Bounded, front_bounded, recounted_next}

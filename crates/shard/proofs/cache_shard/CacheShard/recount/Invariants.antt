@@ -1,6 +1,6 @@
 -- What has been counted is the recount of the slots gone over.
 use Rattle.std.proofs.Common.{◌≡◌, take}
-use Rattle.slab.specs.Slots.{items}
+use Rattle.ring_slab.specs.Slots.{items}
 use Rattle.shard.specs.Tallies.{recounted}
 use Rattle.shard.specs.Layout.{slots}
 use Rattle.shard.proofs.cache_shard.CacheShard.recount.Given as goal

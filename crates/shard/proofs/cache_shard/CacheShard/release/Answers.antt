@@ -1,7 +1,7 @@
 -- The place in hand leaves its chain and is free, and its entry is counted no more.
 use Rattle.std.proofs.Common.{List, [], get_or, set, None, Option, refl, ap, ◌∙◌}
 use Rattle.shard.specs.declared.entry.Entry.{Entry}
-use Rattle.slab.proofs.Counts.{count_head}
+use Rattle.ring_slab.proofs.Counts.{count_head}
 use Rattle.shard.proofs.Tallies.{counted_there}
 use Rattle.shard.proofs.Standing.{size_bound, hand_below}
 use Rattle.shard.proofs.Moves.{refilled_terms, can_leave, can_free, release_places, release_sound}

@@ -1,7 +1,7 @@
 -- Where the weight stays 0 or more, the entry stays in its place; else it enters or leaves its ring.
 use Rattle.std.proofs.Common.{◌≡◌, ◌≤◌, [], ◌∷◌, sym, refl, ap, ◌∙◌, subst, eq-eqb, ne_eqb}
-use Rattle.slab.specs.Places.{count}
-use Rattle.slab.proofs.Counts.{count_head}
+use Rattle.ring_slab.specs.Places.{count}
+use Rattle.ring_slab.proofs.Counts.{count_head}
 use Rattle.shard.specs.declared.entry.Entry.TheVariants as E
 use Rattle.shard.specs.Layout.{kind_of, in_ring, ring_places}
 use Rattle.shard.specs.Moves.{Appends, TurnsOut}

@@ -1,5 +1,5 @@
 use Rattle.std.proofs.Common.{◌≤◌, [], sym, subst}
-use Rattle.slab.specs.Places.{count}
+use Rattle.ring_slab.specs.Places.{count}
 use Rattle.shard.proofs.Takes.{walked_sound, ring_after, took_none, took_no_stop, took_out}
 use Rattle.shard.proofs.cache_shard.CacheShard.take_hot.Goals as goal
 

@@ -1,6 +1,6 @@
 -- A weightless resident is taken up where it lies; any other leaves its ring.
 use Rattle.std.proofs.Common.{◌≡◌, ◌≤◌, sym, refl, ap, subst, eq-eqb, ne_eqb}
-use Rattle.slab.specs.Places.{count}
+use Rattle.ring_slab.specs.Places.{count}
 use Rattle.shard.specs.Layout.{ring_places}
 use Rattle.shard.specs.Moves.{Deletes}
 use Rattle.shard.proofs.Inserting.{takes_out_ring, takes_out_none, up_sound, there, same_entries}

@@ -1,7 +1,7 @@
 -- The place leaves its ring, which goes on from its successor.
 use Rattle.std.proofs.Common.{◌≡◌, ◌-◌, []}
-use Rattle.slab.specs.Slots.{hashes}
-use Rattle.slab.specs.Calls.{slots_of}
+use Rattle.ring_slab.specs.Slots.{hashes}
+use Rattle.ring_slab.specs.Calls.{slots_of}
 use Rattle.shard.specs.Layout.{slots}
 use Rattle.shard.proofs.Moves.{ring_some, in_places, can_unlink, turn_out_places, turn_out_sound, relinked_entries}
 use Rattle.shard.proofs.cache_shard.CacheShard.turn_out.Goals as goal

@@ -1,0 +1,12 @@
+use borrow.Author.Rules.{scaled_Fits}
+use Rattle.ring_slab.proofs.Fields.{next_written}
+use Rattle.ring_slab.proofs.write.set_next.Goals as goal
+
+pub offset-bounds-slots-at : goal.offset-bounds-slots-at
+offset-bounds-slots-at g c = search scaled_Fits
+
+pub bounds-slots-at : goal.bounds-slots-at
+bounds-slots-at g c = c.requires
+
+pub returns : goal.returns
+returns g c = next_written c.args.slots.now c.args.at c.index-slots-at.result c.args.next c.requires

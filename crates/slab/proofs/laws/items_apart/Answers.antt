@@ -1,5 +1,0 @@
-use Rattle.slab.proofs.Changes.{same_links}
-use Rattle.slab.proofs.laws.items_apart.Goals as goal
-
-pub returns : goal.returns
-returns g c = λ s' free used rings loose vacant entered e w. same_links e w
