@@ -5,16 +5,16 @@ use Rattle.ring_slab.specs.Chains.{chain}
 use Rattle.ring_slab.proofs.Chains.{Before, inside, before_none, before_more, before_less, before_all}
 use Rattle.ring_slab.proofs.chain.place_before.Goals as goal
 
-pub chain-of-link-requires : goal.chain-of-link-requires
-chain-of-link-requires g c = inside (look (chains c.args.slots.now)) (length c.args.slots.now) c.args.first c.args.at c.requires.there
+pub chain_of-link-requires : goal.chain_of-link-requires
+chain_of-link-requires g c = inside (look (chains c.args.slots.now)) (length c.args.slots.now) c.args.first c.args.at c.requires.there
 
 pub walk-init : goal.walk-init
 walk-init g c =
     let s = c.args.slots.now in
-    (before_none (look (chains s)) (length s) c.args.first c.args.at c.requires.ends c.requires.later c.requires.there, c.chain-of-link.ensures)
+    (before_none (look (chains s)) (length s) c.args.first c.args.at c.requires.ends c.requires.later c.requires.there, c.chain_of-link.ensures)
 
-pub chain-of-link-requires-in-walk : goal.chain-of-link-requires-in-walk
-chain-of-link-requires-in-walk g c =
+pub chain_of-link-requires-in-walk : goal.chain_of-link-requires-in-walk
+chain_of-link-requires-in-walk g c =
     let n = look (chains c.args.slots.now) in
     let e = length c.args.slots.now in
     let is = c.walk.invariant.1 in
@@ -34,7 +34,7 @@ walk-preserved g c =
     let e = length c.args.slots.now in
     let is = c.walk.invariant.1 in
     let q = before_more n e c.args.first c.args.at c.walk.place c.walk.invariant.0 (λ z. c.walk-test.true (is ∙ z)) in
-    (subst (λ i. Before n e c.args.first c.args.at i) (sym is) q, c.chain-of-link-in-walk.ensures)
+    (subst (λ i. Before n e c.args.first c.args.at i) (sym is) q, c.chain_of-link-in-walk.ensures)
 
 pub returns : goal.returns
 returns g c =

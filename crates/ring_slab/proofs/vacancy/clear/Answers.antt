@@ -9,8 +9,8 @@ column_more : {A B : Type 0} (f : A → B) (to : ℕ → B) (d : B) (l : List A)
 column_more f to d l i a h e inv =
     rw (map-set f l i a, e) (fill_by_more to (map f l) i d (simp length-map h) inv)
 
-pub offset-bounds-slots-i : goal.offset-bounds-slots-i
-offset-bounds-slots-i g c = search scaled_Fits
+pub offset_bounds-slots-i : goal.offset_bounds-slots-i
+offset_bounds-slots-i g c = search scaled_Fits
 
 pub bounds-slots-i : goal.bounds-slots-i
 bounds-slots-i g c = omega arith

@@ -4,10 +4,10 @@ use Rattle.ring_slab.proofs.vacancy.free.Goals as goal
 pub returns : goal.returns
 returns g c =
     let at = c.args.at in
-    let e₁ = c.set-next.ensures in
-    let e₂ = c.set-item.ensures in
+    let e₁ = c.set_next.ensures in
+    let e₂ = c.set_item.ensures in
     record {
-      item = c.item-at-item.ensures;
+      item = c.item_at-item.ensures;
       columns = record {
         buckets = e₂.buckets ∙ e₁.buckets;
         chains = e₂.chains ∙ e₁.chains;

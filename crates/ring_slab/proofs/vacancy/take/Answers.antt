@@ -1,10 +1,10 @@
 use Rattle.ring_slab.proofs.vacancy.take.Goals as goal
 
-pub next-of-next-requires : goal.next-of-next-requires
-next-of-next-requires g c = c.requires
+pub next_of-next-requires : goal.next_of-next-requires
+next_of-next-requires g c = c.requires
 
-pub set-item-requires : goal.set-item-requires
-set-item-requires g c = c.requires
+pub set_item-requires : goal.set_item-requires
+set_item-requires g c = c.requires
 
 pub returns : goal.returns
-returns g c = record { next = c.next-of-next.ensures; columns = c.set-item.ensures }
+returns g c = record { next = c.next_of-next.ensures; columns = c.set_item.ensures }

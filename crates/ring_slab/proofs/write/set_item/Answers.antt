@@ -2,8 +2,8 @@ use borrow.Author.Rules.{scaled_Fits}
 use Rattle.ring_slab.proofs.Fields.{item_written}
 use Rattle.ring_slab.proofs.write.set_item.Goals as goal
 
-pub offset-bounds-slots-at : goal.offset-bounds-slots-at
-offset-bounds-slots-at g c = search scaled_Fits
+pub offset_bounds-slots-at : goal.offset_bounds-slots-at
+offset_bounds-slots-at g c = search scaled_Fits
 
 pub bounds-slots-at : goal.bounds-slots-at
 bounds-slots-at g c = c.requires

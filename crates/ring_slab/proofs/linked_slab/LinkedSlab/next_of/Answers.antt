@@ -5,6 +5,6 @@ use Rattle.ring_slab.proofs.linked_slab.LinkedSlab.next_of.Goals as goal
 pub returns : goal.returns
 returns g c =
     record {
-      link = c.next-of.ensures;
-      ring = λ a b r. ap Some c.next-of.ensures ∙ next_in c.args.self.now.slots.now c.args.at a b r;
+      link = c.next_of.ensures;
+      ring = λ a b r. ap Some c.next_of.ensures ∙ next_in c.args.self.now.slots.now c.args.at a b r;
     }

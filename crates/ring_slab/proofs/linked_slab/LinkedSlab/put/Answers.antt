@@ -6,8 +6,8 @@ pub returns : goal.returns
 returns g c =
     let m = c.args.self.now in
     let s = m.slots.now in
-    let s' = c.set-item.new.slots in
-    let e = c.set-item.ensures in
+    let s' = c.set_item.new.slots in
+    let e = c.set_item.ensures in
     let len : length s' ≡ length s = omega arith in
     record {
       lists = λ rings loose vacant entered w out. stored s s' m.free m.used c.args.at rings loose vacant entered c.args.item c.requires len e.buckets e.chains e.nexts e.prevs e.hashes e.items w out;

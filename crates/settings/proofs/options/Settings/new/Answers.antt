@@ -12,19 +12,19 @@ few items bound a is share less =
     let small : items ≤ 2 ^ 53 = omega arith in
     omega (arith, scaled_le items a small share)
 
-pub invariant-of-result : goal.invariant-of-result
-invariant-of-result c =
-    let least = few c.args.items c.scaled-ghost-bound.result c.args.ghost-allocation c.scaled-ghost-bound.ensures (cc) c.if-items-gt-MAX-ITEMS.false in
-    (search rules, (search rules, (search rules, (omega (arith, least), tt))))
+pub invariant_of-result : goal.invariant_of-result
+invariant_of-result c =
+    let least = few c.args.items c.scaled-ghost_bound.result c.args.ghost_allocation c.scaled-ghost_bound.ensures (cc) c.if-items-gt-MAX_ITEMS.false in
+    record { reaches_one = search rules; within = search rules; exact = search rules; bounded = omega (arith, least) }
 
-pub returns-then-capacity-gt-MAX-CAPACITY : goal.returns-then-capacity-gt-MAX-CAPACITY
-returns-then-capacity-gt-MAX-CAPACITY c = record { value = search rules; sound = tt; few = tt; worked = worked }
+pub returns-then-capacity-gt-MAX_CAPACITY : goal.returns-then-capacity-gt-MAX_CAPACITY
+returns-then-capacity-gt-MAX_CAPACITY c = record { value = search rules; sound = tt; few = tt; worked = worked }
 
-pub returns-then-items-gt-MAX-ITEMS : goal.returns-then-items-gt-MAX-ITEMS
-returns-then-items-gt-MAX-ITEMS c = record { value = search rules; sound = tt; few = tt; worked = worked }
+pub returns-then-items-gt-MAX_ITEMS : goal.returns-then-items-gt-MAX_ITEMS
+returns-then-items-gt-MAX_ITEMS c = record { value = search rules; sound = tt; few = tt; worked = worked }
 
-pub returns-then-not-is-share : goal.returns-then-not-is-share
-returns-then-not-is-share c = record { value = search rules; sound = tt; few = tt; worked = worked }
+pub returns-then-not-is_share : goal.returns-then-not-is_share
+returns-then-not-is_share c = record { value = search rules; sound = tt; few = tt; worked = worked }
 
 pub returns : goal.returns
-returns c = record { value = search rules; sound = stays_sound _ (search rules); few = few _ _ _ c.scaled-ghost-bound.ensures (cc) c.if-items-gt-MAX-ITEMS.false; worked = worked }
+returns c = record { value = search rules; sound = stays_sound _ (search rules); few = few _ _ _ c.scaled-ghost_bound.ensures (cc) c.if-items-gt-MAX_ITEMS.false; worked = worked }

@@ -10,7 +10,7 @@ unfolding of_bits
 returns-then-self-eq0 c =
     let large : ltb 9007199254740992 c.args.capacity ≡ false = grind (arith, nat_tests) in
     let bound : ltb 9007199254740992 c.args.self.ghost_bound ≡ false = grind (arith, nat_tests) in
-    record { value = simp (large, c.if-self-eq0.true, bound, c.target-hot-target.ensures); sound = stays_sound _ (search rules) }
+    record { value = simp (large, c.if-self-eq0.true, bound, c.target-hot_target.ensures); sound = stays_sound _ (search rules) }
 
 pub returns : goal.returns
 returns c = record { value = search rules; sound = stays_sound _ (search rules) }

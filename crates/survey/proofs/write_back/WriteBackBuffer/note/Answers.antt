@@ -22,5 +22,5 @@ returns-after-self c =
       | then-self w ↦ ap (λ d. d.rows) w.self-is ∙ sym (cond-true (ltb b.count 256) written b.rows (lt-ltb b.count 256 (omega (arith, w.if-self.true))))
       | else-self w ↦ ap (λ d. d.rows) w.self-is ∙ sym (cond-false (ltb b.count 256) written b.rows (le-ltb b.count 256 (omega (arith, w.if-self.false))))
     ] in
-    same rows (omega (arith, c.saturating-add-self.ensures))
+    same rows (omega (arith, c.saturating_add-self.ensures))
     ∙ sym (cond-true c.args.val.changed (added b row) b (sym c.if-changed.ensures))
