@@ -4,8 +4,8 @@ use Rattle.std.proofs.lemmas.List.{take_more_set}
 use Rattle.std.proofs.lemmas.Bool.Decides.{nat_tests}
 use Rattle.survey_text.proofs.lines.Line.push.Goals as goal
 
-pub returns-then-self-lt-LINE-BYTES : goal.returns-then-self-lt-LINE-BYTES
-returns-then-self-lt-LINE-BYTES c =
+pub returns-then-self-lt-LINE_BYTES : goal.returns-then-self-lt-LINE_BYTES
+returns-then-self-lt-LINE_BYTES c =
     let bytes = c.args.self.now.bytes in
     let len = c.args.self.now.len in
     let long : length bytes ≡ 1024 = omega arith in
