@@ -15,13 +15,13 @@ returns-then-i-self c =
     let inside : i < length (standing s) = omega arith in
     sym (slice_get-get_or (standing s) i (record { line = 0; fault = Unknown }) inside ∙ ap Some (get_or-take (min s.count 32) s.rows i _ (omega arith)))
 
-pub returns-else-i-lt-KEPT-LINES : goal.returns-else-i-lt-KEPT-LINES
-returns-else-i-lt-KEPT-LINES c =
+pub returns-else-i-lt-KEPT_LINES : goal.returns-else-i-lt-KEPT_LINES
+returns-else-i-lt-KEPT_LINES c =
     let s = c.args.self.now in
     let long = length-take (min s.count 32) s.rows in
     let past : length (standing s) ≤ c.args.i =
-    elim c.else-i-lt-KEPT-LINES.branch [
+    elim c.else-i-lt-KEPT_LINES.branch [
       | else-i-lt-KEPT-LINES-via-then-i-lt-KEPT-LINES+else-i-self w ↦ omega (arith, w.if-i-self.false)
-      | else-i-lt-KEPT-LINES-via-else-i-lt-KEPT-LINES w ↦ omega (arith, w.if-i-lt-KEPT-LINES.false)
+      | else-i-lt-KEPT-LINES-via-else-i-lt-KEPT-LINES w ↦ omega (arith, w.if-i-lt-KEPT_LINES.false)
     ] in
     sym (slice_get_past (standing s) c.args.i past)
