@@ -4,7 +4,7 @@ use Rattle.std.proofs.lemmas.Option.{slice_get-get_or, slice_get_past}
 use Rattle.inspection.specs.Refused.{standing}
 use Rattle.survey_text.specs.declared.faults.Fault.TheVariants.{Unknown}
 use Rattle.inspection.proofs.refused.RefusedLines.get.Goals as goal
-use Rattle.inspection.proofs.refused.RefusedLines.get.Goals.{else-i-lt-KEPT-LINES-via-then-i-lt-KEPT-LINES+else-i-self, else-i-lt-KEPT-LINES-via-else-i-lt-KEPT-LINES}
+use Rattle.inspection.proofs.refused.RefusedLines.get.Goals.{else-i-lt-KEPT_LINES-via-then-i-lt-KEPT_LINES+else-i-self, else-i-lt-KEPT_LINES-via-else-i-lt-KEPT_LINES}
 
 pub returns-then-i-self : goal.returns-then-i-self
 returns-then-i-self c =
@@ -21,7 +21,7 @@ returns-else-i-lt-KEPT_LINES c =
     let long = length-take (min s.count 32) s.rows in
     let past : length (standing s) ≤ c.args.i =
     elim c.else-i-lt-KEPT_LINES.branch [
-      | else-i-lt-KEPT-LINES-via-then-i-lt-KEPT-LINES+else-i-self w ↦ omega (arith, w.if-i-self.false)
-      | else-i-lt-KEPT-LINES-via-else-i-lt-KEPT-LINES w ↦ omega (arith, w.if-i-lt-KEPT_LINES.false)
+      | else-i-lt-KEPT_LINES-via-then-i-lt-KEPT_LINES+else-i-self w ↦ omega (arith, w.if-i-self.false)
+      | else-i-lt-KEPT_LINES-via-else-i-lt-KEPT_LINES w ↦ omega (arith, w.if-i-lt-KEPT_LINES.false)
     ] in
     sym (slice_get_past (standing s) c.args.i past)
