@@ -11,20 +11,20 @@ lap-init g c =
     let s = slots_of c.args.slab.now in
     cooling_start (g.L.Lifecycle.life c.args.life.now).pins (walk (look (nexts s)) c.args.head c.args.len) s c.args.head (walk_leads (look (nexts s)) c.args.head c.args.len)
 
-pub cold-passes-requires : goal.cold-passes-requires
-cold-passes-requires g c =
+pub cold_passes-requires : goal.cold_passes-requires
+cold_passes-requires g c =
     let s = slots_of c.args.slab.now in
     let n = walk_length (look (nexts s)) c.args.head c.args.len in
     (standing s (walk (look (nexts s)) c.args.head c.args.len) c.lap.at c.lap.-i c.requires (omega arith) c.lap.invariant.walking).within
 
-pub returns-then-not-cold-passes : goal.returns-then-not-cold-passes
-returns-then-not-cold-passes g c =
+pub returns-then-not-cold_passes : goal.returns-then-not-cold_passes
+returns-then-not-cold_passes g c =
     let s = slots_of c.args.slab.now in
     let n = walk_length (look (nexts s)) c.args.head c.args.len in
-    cooling_stop (g.L.Lifecycle.life c.args.life.now).pins (walk (look (nexts s)) c.args.head c.args.len) s c.lap.at c.lap.-i c.requires (omega arith) c.lap.invariant (sym c.cold-passes.ensures ∙ c.if-not-cold-passes.true)
+    cooling_stop (g.L.Lifecycle.life c.args.life.now).pins (walk (look (nexts s)) c.args.head c.args.len) s c.lap.at c.lap.-i c.requires (omega arith) c.lap.invariant (sym c.cold_passes.ensures ∙ c.if-not-cold_passes.true)
 
-pub next-of-at-requires : goal.next-of-at-requires
-next-of-at-requires g c =
+pub next_of-at-requires : goal.next_of-at-requires
+next_of-at-requires g c =
     let s = slots_of c.args.slab.now in
     let n = walk_length (look (nexts s)) c.args.head c.args.len in
     (standing s (walk (look (nexts s)) c.args.head c.args.len) c.lap.at c.lap.-i c.requires (omega arith) c.lap.invariant.walking).within
@@ -33,7 +33,7 @@ pub lap-preserved : goal.lap-preserved
 lap-preserved g c =
     let s = slots_of c.args.slab.now in
     let n = walk_length (look (nexts s)) c.args.head c.args.len in
-    cooling_on (g.L.Lifecycle.life c.args.life.now).pins (walk (look (nexts s)) c.args.head c.args.len) s c.lap.at c.next-of-at.result c.lap.-i c.requires (omega arith) c.lap.invariant (sym c.cold-passes.ensures ∙ c.if-not-cold-passes.false) c.next-of-at.ensures.link
+    cooling_on (g.L.Lifecycle.life c.args.life.now).pins (walk (look (nexts s)) c.args.head c.args.len) s c.lap.at c.next_of-at.result c.lap.-i c.requires (omega arith) c.lap.invariant (sym c.cold_passes.ensures ∙ c.if-not-cold_passes.false) c.next_of-at.ensures.link
 
 pub returns : goal.returns
 returns g c =

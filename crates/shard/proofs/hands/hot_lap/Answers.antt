@@ -29,8 +29,8 @@ returns-in-Stop g c =
       lapped = mid_stop (g.L.Lifecycle.life c.args.life.now).pins (walk (look (nexts s)) c.args.head c.args.len) s (slots_of c.lap.slab) (slots_of c.touch.new.slab) c.lap.at c.lap.-i c.lap.all c.requires (omega arith) c.lap.invariant.0 e.items e.met;
     }
 
-pub next-of-at-requires : goal.next-of-at-requires
-next-of-at-requires g c =
+pub next_of-at-requires : goal.next_of-at-requires
+next_of-at-requires g c =
     let s = slots_of c.args.slab.now in
     let n = walk_length (look (nexts s)) c.args.head c.args.len in
     let t = (standing s (walk (look (nexts s)) c.args.head c.args.len) c.lap.at c.lap.-i c.requires (omega arith) c.lap.invariant.0.walking).within in
@@ -42,16 +42,16 @@ lap-preserved g c =
     let p = (g.L.Lifecycle.life c.args.life.now).pins in
     let xs = walk (look (nexts s)) c.args.head c.args.len in
     let n = walk_length (look (nexts s)) c.args.head c.args.len in
-    let go = mid_more p xs s (slots_of c.lap.slab) (slots_of c.touch.new.slab) c.lap.at c.next-of-at.result c.lap.-i c.lap.all in
-    let P : Bool → Type 0 = λ z. Mid p xs s (slots_of c.touch.new.slab) c.next-of-at.result (c.lap.-i + 1) z in
+    let go = mid_more p xs s (slots_of c.lap.slab) (slots_of c.touch.new.slab) c.lap.at c.next_of-at.result c.lap.-i c.lap.all in
+    let P : Bool → Type 0 = λ z. Mid p xs s (slots_of c.touch.new.slab) c.next_of-at.result (c.lap.-i + 1) z in
     let sh = shape_trans c.lap.invariant.1 c.touch.ensures.shape in
     elim c.match-touch.branch [
       | in-Unpinned w ↦
           let e = w.in-Unpinned.ensures in
-          (subst P (and_false c.lap.all ∙ sym w.all-is) (go false c.requires (omega arith) c.lap.invariant.0 e.shape.links e.items e.met.1 e.met.0 e.met.2 c.next-of-at.ensures.link), sh)
+          (subst P (and_false c.lap.all ∙ sym w.all-is) (go false c.requires (omega arith) c.lap.invariant.0 e.shape.links e.items e.met.1 e.met.0 e.met.2 c.next_of-at.ensures.link), sh)
       | in-Pinned w ↦
           let e = w.in-Pinned.ensures in
-          (subst P (and_true c.lap.all ∙ sym w.all-is) (go true c.requires (omega arith) c.lap.invariant.0 e.shape.links e.items e.met.1 e.met.0 (omega arith) c.next-of-at.ensures.link), sh)
+          (subst P (and_true c.lap.all ∙ sym w.all-is) (go true c.requires (omega arith) c.lap.invariant.0 e.shape.links e.items e.met.1 e.met.0 (omega arith) c.next_of-at.ensures.link), sh)
     ]
 
 pub returns-then-all : goal.returns-then-all

@@ -14,18 +14,18 @@ laps-init g c =
 pub returns-in-Stop : goal.returns-in-Stop
 returns-in-Stop g c =
     let e = c.in-Stop.ensures in
-    let q = round_stop (g.L.Lifecycle.life c.args.life.now).pins c.args.head c.args.len (slots_of c.args.slab.now) (slots_of c.laps.slab) (slots_of c.hot-lap.new.slab) c.laps.invariant.0 c.in-Stop.at c.requires e.lapped in
+    let q = round_stop (g.L.Lifecycle.life c.args.life.now).pins c.args.head c.args.len (slots_of c.args.slab.now) (slots_of c.laps.slab) (slots_of c.hot_lap.new.slab) c.laps.invariant.0 c.in-Stop.at c.requires e.lapped in
     record { shape = shape_trans c.laps.invariant.1 e.shape; reads = q.1.only; off = q.1.off; place = q.0; model = q.1.walks }
 
 pub laps-preserved : goal.laps-preserved
 laps-preserved g c =
     let e = c.in-Unpinned.ensures in (
-      round_lap (g.L.Lifecycle.life c.args.life.now).pins c.args.head c.args.len (slots_of c.args.slab.now) (slots_of c.laps.slab) (slots_of c.hot-lap.new.slab) c.laps.invariant.0 e.shape.links e.lapped,
+      round_lap (g.L.Lifecycle.life c.args.life.now).pins c.args.head c.args.len (slots_of c.args.slab.now) (slots_of c.laps.slab) (slots_of c.hot_lap.new.slab) c.laps.invariant.0 e.shape.links e.lapped,
       shape_trans c.laps.invariant.1 e.shape,
     )
 
 pub returns-in-Pinned : goal.returns-in-Pinned
 returns-in-Pinned g c =
     let e = c.in-Pinned.ensures in
-    let q = round_none (g.L.Lifecycle.life c.args.life.now).pins c.args.head c.args.len (slots_of c.args.slab.now) (slots_of c.laps.slab) (slots_of c.hot-lap.new.slab) c.laps.invariant.0 e.lapped in
+    let q = round_none (g.L.Lifecycle.life c.args.life.now).pins c.args.head c.args.len (slots_of c.args.slab.now) (slots_of c.laps.slab) (slots_of c.hot_lap.new.slab) c.laps.invariant.0 e.lapped in
     record { shape = shape_trans c.laps.invariant.1 e.shape; reads = q.only; off = q.off; place = tt; model = q.walks }

@@ -6,8 +6,8 @@ use Rattle.shard.proofs.cache.Cache.get.Goals as goal
 pub get-requires : goal.get-requires
 get-requires g c = opened c.args.self.now.shard [] c.args.self.now.sound
 
-pub invariant-of-self : goal.invariant-of-self
-invariant-of-self g c = (∣ c.get.ensures.sound ∣₁, tt)
+pub invariant_of-self : goal.invariant_of-self
+invariant_of-self g c = (∣ c.get.ensures.sound ∣₁, tt)
 
 pub returns : goal.returns
 returns g c = c.get.ensures.model

@@ -15,9 +15,9 @@ returns g c =
     let x = c.args.self.now in
     let x' = c.overwrite.new.self in
     let r = c.args.r in
-    let new : Resident g.row.K.Denot g.row.V.Denot = record { key = r.key; weight = r.weight; value = r.value; state = r.state; reads = c.more-reads-reads.result } in
+    let new : Resident g.row.K.Denot g.row.V.Denot = record { key = r.key; weight = r.weight; value = r.value; state = r.state; reads = c.more_reads-reads.result } in
     record {
       sound = stays_sound c.args.at (E.Resident r) (E.Resident new) x x' c.requires.here refl c.overwrite.ensures.places c.requires.sound;
       terms = c.overwrite.ensures.terms;
-      model = reads_more c.args.at r new x x' (ap (λ n. E.Resident (record { key = r.key; weight = r.weight; value = r.value; state = r.state; reads = n })) c.more-reads-reads.ensures) c.requires.here refl c.overwrite.ensures.places c.overwrite.ensures.items c.overwrite.ensures.hashes;
+      model = reads_more c.args.at r new x x' (ap (λ n. E.Resident (record { key = r.key; weight = r.weight; value = r.value; state = r.state; reads = n })) c.more_reads-reads.ensures) c.requires.here refl c.overwrite.ensures.places c.overwrite.ensures.items c.overwrite.ensures.hashes;
     }

@@ -15,17 +15,17 @@ link-requires g c =
     subst (λ r. Linkable (slots c.args.self.now) c.args.at r.head) (sym c.ring-ring.ensures)
     (can_link c.requires.sound c.args.name c.args.at (hand_below c.requires.sound c.args.at (count_head c.args.at [])))
 
-pub overflow-add-len : goal.overflow-add-len
-overflow-add-len g c = Fits-below {n = 1048577} tt (omega (arith, ap (λ r. r.len) c.ring-ring.ensures, ring_size c.requires.sound c.args.name))
+pub overflow_add-len : goal.overflow_add-len
+overflow_add-len g c = Fits-below {n = 1048577} tt (omega (arith, ap (λ r. r.len) c.ring-ring.ensures, ring_size c.requires.sound c.args.name))
 
 pub returns : goal.returns
 returns g c =
     let x = c.args.self.now in
-    let x' = c.set-ring.new.self in
+    let x' = c.set_ring.new.self in
     let m = c.link.new.self in
     let hs : hashes (slots_of m) ≡ hashes (slots x) = c.link.ensures.chains.hashes in
     record {
-      sound = append_sound c.args.name c.args.at x x' m c.ring-ring.result c.link.result c.ring-ring.ensures c.link.ensures.lists c.link.ensures.items hs c.set-ring.ensures c.requires.kind c.requires.sound;
-      places = append_places c.args.name c.args.at x x' m c.ring-ring.result c.link.result c.ring-ring.ensures c.link.ensures.lists c.link.ensures.items hs c.set-ring.ensures c.requires.kind;
-      entries = relinked_entries c.args.name x x' m (record { head = Some c.link.result; len = c.ring-ring.result.len + 1 }) c.link.ensures.items hs c.set-ring.ensures;
+      sound = append_sound c.args.name c.args.at x x' m c.ring-ring.result c.link.result c.ring-ring.ensures c.link.ensures.lists c.link.ensures.items hs c.set_ring.ensures c.requires.kind c.requires.sound;
+      places = append_places c.args.name c.args.at x x' m c.ring-ring.result c.link.result c.ring-ring.ensures c.link.ensures.lists c.link.ensures.items hs c.set_ring.ensures c.requires.kind;
+      entries = relinked_entries c.args.name x x' m (record { head = Some c.link.result; len = c.ring-ring.result.len + 1 }) c.link.ensures.items hs c.set_ring.ensures;
     }

@@ -5,25 +5,25 @@ use Rattle.shard.proofs.Standing.{head_in_ring}
 use Rattle.shard.proofs.Turns.{bounds-none, bounds-more}
 use Rattle.shard.proofs.cache_shard.CacheShard.bound_ghosts.Goals as goal
 
-pub turn-out-requires : goal.turn-out-requires
-turn-out-requires g c =
+pub turn_out-requires : goal.turn_out-requires
+turn_out-requires g c =
     let x = c.args.self.now in
     record { sound = c.requires; there = head_in_ring c.requires Ghosts c.in-Some.at c.in-Some.is }
 
 pub returns-in-Some : goal.returns-in-Some
 returns-in-Some g c =
     let x = c.args.self.now in
-    let x₁ = c.turn-out.new.self in
+    let x₁ = c.turn_out.new.self in
     let x₂ = c.release.new.self in
-    let o = c.turn-out.ensures in
+    let o = c.turn_out.ensures in
     let d = c.release.ensures in
-    let many : (limits x.settings).bound < x.ghosts.len = omega (arith, c.if-self-ghost-bound.true, c.ghost-bound.ensures) in
+    let many : (limits x.settings).bound < x.ghosts.len = omega (arith, c.if-self-ghost_bound.true, c.ghost_bound.ensures) in
     let b = bounds-more x x₁ x₂ c.in-Some.at c.requires c.in-Some.is many o.places o.entries d.places d.items d.hashes d.terms in
     record { sound = d.sound; used = b.used; lengths = b.lengths; model = b.model }
 
-pub returns-else-self-ghost-bound : goal.returns-else-self-ghost-bound
-returns-else-self-ghost-bound g c =
+pub returns-else-self-ghost_bound : goal.returns-else-self-ghost_bound
+returns-else-self-ghost_bound g c =
     let x = c.args.self.now in
-    let few : x.ghosts.len ≤ (limits x.settings).bound = omega (arith, c.if-self-ghost-bound.false, c.ghost-bound.ensures) in
+    let few : x.ghosts.len ≤ (limits x.settings).bound = omega (arith, c.if-self-ghost_bound.false, c.ghost_bound.ensures) in
     let b = bounds-none x few in
     record { sound = c.requires; used = b.used; lengths = b.lengths; model = b.model }

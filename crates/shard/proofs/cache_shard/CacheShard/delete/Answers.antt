@@ -12,13 +12,13 @@ use Rattle.shard.proofs.cache_shard.CacheShard.delete.Goals.{then-eq, else-eq}
 pub unlink-next-requires : goal.unlink-next-requires
 unlink-next-requires g c = can_unlink c.requires.sound c.args.name c.args.at (in_places c.args.name c.args.self.now [] c.args.at c.requires.there)
 
-pub overflow-sub-len : goal.overflow-sub-len
-overflow-sub-len g c = ring_some c.args.name c.args.self.now c.ring-ring.result c.args.at c.ring-ring.ensures c.requires.there
+pub overflow_sub-len : goal.overflow_sub-len
+overflow_sub-len g c = ring_some c.args.name c.args.self.now c.ring-ring.result c.args.at c.ring-ring.ensures c.requires.there
 
 pub returns : goal.returns
 returns g c =
     let x = c.args.self.now in
-    let x' = c.set-ring.new.self in
+    let x' = c.set_ring.new.self in
     let m = c.unlink-next.new.self in
     let hs : hashes (slots_of m) ≡ hashes (slots x) = c.unlink-next.ensures.chains.hashes in
     let head = c.ring-ring.result.head in
@@ -26,7 +26,7 @@ returns g c =
     let stays : (h : ℕ) → head ≡ Some h → (h ≡ c.args.at → ⊥) → c.if-eq.head ≡ Some h = λ h e ne. elim c.if-eq.branch [ then-eq w ↦ absurd (ne ((test h e).0 w.if-eq.true)) | else-eq w ↦ w.head_is ∙ e ] in
     let goes : head ≡ Some c.args.at → c.if-eq.head ≡ c.unlink-next.result = λ e. elim c.if-eq.branch [ then-eq w ↦ w.head_is | else-eq w ↦ absurd (both_ways c.eq.result w.if-eq.false ((test c.args.at e).1 refl)) ] in
     record {
-      sound = delete_sound c.args.name c.args.at x x' m c.ring-ring.result c.unlink-next.result c.ring-ring.ensures c.unlink-next.ensures.lists c.unlink-next.ensures.items hs c.if-eq.head stays goes c.set-ring.ensures c.requires.sound c.requires.there;
-      places = delete_places c.args.name c.args.at x x' m c.ring-ring.result c.unlink-next.result c.ring-ring.ensures c.unlink-next.ensures.lists c.unlink-next.ensures.items hs c.if-eq.head stays goes c.set-ring.ensures;
-      entries = relinked_entries c.args.name x x' m (record { head = c.if-eq.head; len = c.ring-ring.result.len - 1 }) c.unlink-next.ensures.items hs c.set-ring.ensures;
+      sound = delete_sound c.args.name c.args.at x x' m c.ring-ring.result c.unlink-next.result c.ring-ring.ensures c.unlink-next.ensures.lists c.unlink-next.ensures.items hs c.if-eq.head stays goes c.set_ring.ensures c.requires.sound c.requires.there;
+      places = delete_places c.args.name c.args.at x x' m c.ring-ring.result c.unlink-next.result c.ring-ring.ensures c.unlink-next.ensures.lists c.unlink-next.ensures.items hs c.if-eq.head stays goes c.set_ring.ensures;
+      entries = relinked_entries c.args.name x x' m (record { head = c.if-eq.head; len = c.ring-ring.result.len - 1 }) c.unlink-next.ensures.items hs c.set_ring.ensures;
     }

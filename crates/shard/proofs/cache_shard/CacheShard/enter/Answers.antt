@@ -18,7 +18,7 @@ pub append-requires : goal.append-requires
 append-requires g c =
     record {
       sound = c.requires.sound;
-      kind = ap kind_of c.requires.here ∙ kind_ring c.args.r (ne_eqb c.args.r.weight 0 c.if-r-eq0.false) ∙ ap in_ring (sym c.ring-of.ensures);
+      kind = ap kind_of c.requires.here ∙ kind_ring c.args.r (ne_eqb c.args.r.weight 0 c.if-r-eq0.false) ∙ ap in_ring (sym c.ring_of.ensures);
     }
 
 pub returns : goal.returns
@@ -27,5 +27,5 @@ returns g c =
       sound = c.append.ensures.sound;
       entries = c.append.ensures.entries;
       model = enters_ring c.args.at c.args.r c.args.self.now c.append.new.self (ne_eqb c.args.r.weight 0 c.if-r-eq0.false)
-          (subst (λ n. Appends n c.args.at c.args.self.now c.append.new.self) c.ring-of.ensures c.append.ensures.places) c.append.ensures.entries;
+          (subst (λ n. Appends n c.args.at c.args.self.now c.append.new.self) c.ring_of.ensures c.append.ensures.places) c.append.ensures.entries;
     }

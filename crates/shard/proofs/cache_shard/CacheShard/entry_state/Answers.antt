@@ -5,13 +5,13 @@ use Rattle.shard.proofs.Standing.{size_bound}
 use Rattle.shard.proofs.Occupying.{hot_part, other_part}
 use Rattle.shard.proofs.cache_shard.CacheShard.entry_state.Goals as goal
 
-pub has-room-room-requires : goal.has-room-room-requires
-has-room-room-requires g c = let b = tally_bounded c.requires.counted (size_bound c.requires) in omega arith
+pub has_room-room-requires : goal.has_room-room-requires
+has_room-room-requires g c = let b = tally_bounded c.requires.counted (size_bound c.requires) in omega arith
 
 pub returns-then-room : goal.returns-then-room
 returns-then-room g c =
-    hot_part c.has-room-room.result _ c.args.otherwise (c.has-room-room.ensures ∙ ap (λ (t : ℕ). leb (c.args.self.now.tally.hot_weight + c.args.weight) t) c.hot-target.ensures) c.if-room.true
+    hot_part c.has_room-room.result _ c.args.otherwise (c.has_room-room.ensures ∙ ap (λ (t : ℕ). leb (c.args.self.now.tally.hot_weight + c.args.weight) t) c.hot_target.ensures) c.if-room.true
 
 pub returns : goal.returns
 returns g c =
-    other_part c.has-room-room.result _ c.args.otherwise (c.has-room-room.ensures ∙ ap (λ (t : ℕ). leb (c.args.self.now.tally.hot_weight + c.args.weight) t) c.hot-target.ensures) c.if-room.false
+    other_part c.has_room-room.result _ c.args.otherwise (c.has_room-room.ensures ∙ ap (λ (t : ℕ). leb (c.args.self.now.tally.hot_weight + c.args.weight) t) c.hot_target.ensures) c.if-room.false

@@ -3,8 +3,8 @@ use Rattle.shard.specs.Layout.{entry_at}
 use Rattle.shard.proofs.Evictions.{resident_is, at_slot, parted_stays, parted_drops, kept_off, lets_stay, lets_leave_hot}
 use Rattle.shard.proofs.cache_shard.CacheShard.evict_hot.Goals as goal
 
-pub resident-at-requires : goal.resident-at-requires
-resident-at-requires g c = at_slot c.args.self.now c.args.self.now c.args.at c.requires.sound
+pub resident_at-requires : goal.resident_at-requires
+resident_at-requires g c = at_slot c.args.self.now c.args.self.now c.args.at c.requires.sound
 
 pub overwrite-requires : goal.overwrite-requires
 overwrite-requires g c =
@@ -17,31 +17,31 @@ returns-then-weight-eq0 g c =
     let w = g.W.Weighter.weight c.args.w.now in
     let l = g.L.Lifecycle.life c.args.life.now in
     let r = c.in-Some.r in
-    let v = c.before-evict-value.result in
+    let v = c.before_evict-value.result in
     let n = c.weigh-weight.result in
     let is = resident_is (entry_at x c.args.at) c.in-Some.r c.in-Some.ensures in
-    let b = c.before-evict-value.ensures in
+    let b = c.before_evict-value.ensures in
     let o = c.overwrite.ensures in
-    let off = kept_off w l x c.args.at c.args.state.now c.before-evict-value.new.state r v n is b.state b.val c.weigh-weight.ensures x' c.if-weight-eq0.true in
+    let off = kept_off w l x c.args.at c.args.state.now c.before_evict-value.new.state r v n is b.state b.val c.weigh-weight.ensures x' c.if-weight-eq0.true in
     let p = parted_stays x x' c.args.at c.requires.sound _ o.places o.items o.terms off in
     record {
       sound = p.sound;
       used = p.used;
       lengths = p.lengths;
-      model = lets_stay w l x c.args.at c.args.state.now c.before-evict-value.new.state r v n is b.state b.val c.weigh-weight.ensures x' c.if-weight-eq0.true o.places o.items o.hashes;
+      model = lets_stay w l x c.args.at c.args.state.now c.before_evict-value.new.state r v n is b.state b.val c.weigh-weight.ensures x' c.if-weight-eq0.true o.places o.items o.hashes;
     }
 
 pub returns-else-weight-eq0 : goal.returns-else-weight-eq0
 returns-else-weight-eq0 g c =
     let x = c.args.self.now in
     let x' = c.release.new.self in
-    let b = c.before-evict-value.ensures in
+    let b = c.before_evict-value.ensures in
     let o = c.release.ensures in
     let p = parted_drops x x' c.args.at c.requires.sound o.places o.terms o.sound in
     record {
       sound = p.sound;
       used = p.used;
       lengths = p.lengths;
-      model = lets_leave_hot (g.W.Weighter.weight c.args.w.now) (g.L.Lifecycle.life c.args.life.now) x c.args.at c.args.state.now c.before-evict-value.new.state c.in-Some.r c.before-evict-value.result c.weigh-weight.result
+      model = lets_leave_hot (g.W.Weighter.weight c.args.w.now) (g.L.Lifecycle.life c.args.life.now) x c.args.at c.args.state.now c.before_evict-value.new.state c.in-Some.r c.before_evict-value.result c.weigh-weight.result
           (resident_is (entry_at x c.args.at) c.in-Some.r c.in-Some.ensures) b.state b.val c.weigh-weight.ensures x' c.on_evict_hot.new.state c.if-weight-eq0.false c.requires.kind c.on_evict_hot.ensures o.places o.items o.hashes;
     }

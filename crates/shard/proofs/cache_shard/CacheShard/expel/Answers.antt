@@ -7,6 +7,6 @@ pub returns : goal.returns
 returns g c =
     record {
       sound = c.release.ensures.sound;
-      terms = terms_after c.args.self.now c.take-out.new.self c.release.new.self c.take-out.ensures.entries c.release.ensures.terms;
-      model = expels c.args.at c.args.r c.args.self.now c.take-out.new.self c.release.new.self c.take-out.ensures.model c.release.ensures.places c.release.ensures.items c.release.ensures.hashes;
+      terms = terms_after c.args.self.now c.take_out.new.self c.release.new.self c.take_out.ensures.entries c.release.ensures.terms;
+      model = expels c.args.at c.args.r c.args.self.now c.take_out.new.self c.release.new.self c.take_out.ensures.model c.release.ensures.places c.release.ensures.items c.release.ensures.hashes;
     }

@@ -10,8 +10,8 @@ use Rattle.shard.proofs.cache_shard.CacheShard.get.Goals as goal
 pub find-requires : goal.find-requires
 find-requires g c = record { sound = c.requires; hash = c.hash.ensures }
 
-pub add-read-requires : goal.add-read-requires
-add-read-requires g c = record { sound = c.requires; here = c.in-At.ensures.place ∙ ap Some c.in-Resident.is }
+pub add_read-requires : goal.add_read-requires
+add_read-requires g c = record { sound = c.requires; here = c.in-At.ensures.place ∙ ap Some c.in-Resident.is }
 
 pub returns-in-Nothing : goal.returns-in-Nothing
 returns-in-Nothing g c =
@@ -24,9 +24,9 @@ returns-in-Nothing g c =
 pub returns-in-Resident : goal.returns-in-Resident
 returns-in-Resident g c =
     record {
-      sound = c.add-read.ensures.sound;
-      model = get_follows _ (keeps _ g.met.K.Key.symmetric g.met.K.Key.transitive) c.args.key.now c.args.self.now c.add-read.new.self c.add-read.ensures.terms (F.At c.in-At.at c.in-At.entry) c.in-At.ensures.model (calls.found c.in-Resident.r.key c.in-Resident.r.value)
-          (λ s p shows f h. got s p shows c.in-At.at c.in-At.entry c.in-Resident.r c.in-Resident.is c.add-read.ensures.model f h);
+      sound = c.add_read.ensures.sound;
+      model = get_follows _ (keeps _ g.met.K.Key.symmetric g.met.K.Key.transitive) c.args.key.now c.args.self.now c.add_read.new.self c.add_read.ensures.terms (F.At c.in-At.at c.in-At.entry) c.in-At.ensures.model (calls.found c.in-Resident.r.key c.in-Resident.r.value)
+          (λ s p shows f h. got s p shows c.in-At.at c.in-At.entry c.in-Resident.r c.in-Resident.is c.add_read.ensures.model f h);
     }
 
 pub returns-in-Placeholder : goal.returns-in-Placeholder

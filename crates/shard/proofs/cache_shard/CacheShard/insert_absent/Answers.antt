@@ -12,8 +12,8 @@ use Rattle.shard.proofs.Resettling.{terms_before, terms_on}
 use Rattle.shard.proofs.Occupying.{part_of, no_none, still_free, filled_entry, brings_in}
 use Rattle.shard.proofs.cache_shard.CacheShard.insert_absent.Goals as goal
 
-pub entry-state-part-requires : goal.entry-state-part-requires
-entry-state-part-requires g c = c.requires.sound
+pub entry_state-part-requires : goal.entry_state-part-requires
+entry_state-part-requires g c = c.requires.sound
 
 pub shrink-requires : goal.shrink-requires
 shrink-requires g c = c.requires.sound
@@ -23,7 +23,7 @@ occupy-requires g c = c.shrink.ensures.sound
 
 pub enter-requires : goal.enter-requires
 enter-requires g c =
-    let r : Resident g.row.K.Denot g.row.V.Denot = record { key = c.args.key; weight = c.args.weight; value = c.args.value; state = c.entry-state-part.result; reads = 0 } in
+    let r : Resident g.row.K.Denot g.row.V.Denot = record { key = c.args.key; weight = c.args.weight; value = c.args.value; state = c.entry_state-part.result; reads = 0 } in
     record {
       sound = c.in-Some.ensures.sound;
       here = filled_entry c.in-Some.at (E.Resident r) c.shrink.new.self c.occupy.new.self c.shrink.ensures.sound c.in-Some.ensures.places c.in-Some.ensures.items;
@@ -39,14 +39,14 @@ returns-in-Some g c =
     let x₁ = c.shrink.new.self in
     let x₂ = c.occupy.new.self in
     let x' = c.enter.new.self in
-    let r : Resident g.row.K.Denot g.row.V.Denot = record { key = c.args.key; weight = c.args.weight; value = c.args.value; state = c.entry-state-part.result; reads = 0 } in
+    let r : Resident g.row.K.Denot g.row.V.Denot = record { key = c.args.key; weight = c.args.weight; value = c.args.value; state = c.entry_state-part.result; reads = 0 } in
     let made : ℕ → ResidentState → Entry g.row.K.Denot g.row.V.Denot = λ weight state. E.Resident (record { key = c.args.key; weight = weight; value = c.args.value; state = state; reads = 0 }) in
     let terms = terms_before x x₂ x' (terms_on x x₁ x₂ c.shrink.ensures.used.terms c.occupy.ensures.terms) c.enter.ensures.entries in
     record {
       sound = c.enter.ensures.sound;
       terms = terms;
       model = brings_in (g.W.Weighter.weight c.args.w.now) (g.L.Lifecycle.life c.args.life.now) r c.args.key c.args.hash c.args.value c.in-Some.at x x₁ x₂ x' c.args.state.now c.shrink.new.state
-          (ap (λ (s : ResidentState). made c.args.weight s) (c.entry-state-part.ensures ∙ part_of _) ∙ ap (λ (n : ℕ). made n (part (leb (x.tally.hot_weight + n) (limits x.settings).target))) c.requires.weight)
+          (ap (λ (s : ResidentState). made c.args.weight s) (c.entry_state-part.ensures ∙ part_of _) ∙ ap (λ (n : ℕ). made n (part (leb (x.tally.hot_weight + n) (limits x.settings).target))) c.requires.weight)
           c.shrink.ensures.used.terms
           (subst (λ (n : ℕ). FollowsRings (g.W.Weighter.weight c.args.w.now) (g.L.Lifecycle.life c.args.life.now) (λ u t. shrink u n t) x x₁ c.args.state.now c.shrink.new.state) c.requires.weight c.shrink.ensures.model)
           c.in-Some.ensures.places c.in-Some.ensures.items c.in-Some.ensures.hashes

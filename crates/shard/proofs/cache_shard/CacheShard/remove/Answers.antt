@@ -13,11 +13,11 @@ find-requires g c = record { sound = c.requires; hash = c.hash.ensures }
 pub expel-requires : goal.expel-requires
 expel-requires g c = record { sound = c.requires; here = c.in-At.ensures.place ∙ ap Some c.in-Resident.is }
 
-pub drop-placeholder-requires : goal.drop-placeholder-requires
-drop-placeholder-requires g c = record { sound = c.requires; here = c.in-At.ensures.place ∙ ap Some c.in-Placeholder.is }
+pub drop_placeholder-requires : goal.drop_placeholder-requires
+drop_placeholder-requires g c = record { sound = c.requires; here = c.in-At.ensures.place ∙ ap Some c.in-Placeholder.is }
 
-pub drop-ghost-requires : goal.drop-ghost-requires
-drop-ghost-requires g c = record { sound = c.requires; here = c.in-At.ensures.place ∙ ap Some c.in-Ghost.is }
+pub drop_ghost-requires : goal.drop_ghost-requires
+drop_ghost-requires g c = record { sound = c.requires; here = c.in-At.ensures.place ∙ ap Some c.in-Ghost.is }
 
 pub returns-in-Nothing : goal.returns-in-Nothing
 returns-in-Nothing g c =
@@ -38,15 +38,15 @@ returns-in-Resident g c =
 pub returns-in-Placeholder : goal.returns-in-Placeholder
 returns-in-Placeholder g c =
     record {
-      sound = c.drop-placeholder.ensures.sound;
-      model = remove_follows _ (keeps _ g.met.K.Key.symmetric g.met.K.Key.transitive) c.args.key.now c.args.self.now c.drop-placeholder.new.self c.drop-placeholder.ensures.terms (F.At c.in-At.at c.in-At.entry) c.in-At.ensures.model calls.none
-          (λ s p shows f h. placeholder_removed s p shows c.in-At.at c.in-At.entry c.in-Placeholder.q c.in-Placeholder.is c.drop-placeholder.ensures.model f h);
+      sound = c.drop_placeholder.ensures.sound;
+      model = remove_follows _ (keeps _ g.met.K.Key.symmetric g.met.K.Key.transitive) c.args.key.now c.args.self.now c.drop_placeholder.new.self c.drop_placeholder.ensures.terms (F.At c.in-At.at c.in-At.entry) c.in-At.ensures.model calls.none
+          (λ s p shows f h. placeholder_removed s p shows c.in-At.at c.in-At.entry c.in-Placeholder.q c.in-Placeholder.is c.drop_placeholder.ensures.model f h);
     }
 
 pub returns-in-Ghost : goal.returns-in-Ghost
 returns-in-Ghost g c =
     record {
-      sound = c.drop-ghost.ensures.sound;
-      model = remove_follows _ (keeps _ g.met.K.Key.symmetric g.met.K.Key.transitive) c.args.key.now c.args.self.now c.drop-ghost.new.self c.drop-ghost.ensures.terms (F.At c.in-At.at c.in-At.entry) c.in-At.ensures.model calls.none
-          (λ s p shows f h. ghost_removed s p shows c.in-At.at c.in-At.entry c.in-Ghost.is c.drop-ghost.ensures.model f h);
+      sound = c.drop_ghost.ensures.sound;
+      model = remove_follows _ (keeps _ g.met.K.Key.symmetric g.met.K.Key.transitive) c.args.key.now c.args.self.now c.drop_ghost.new.self c.drop_ghost.ensures.terms (F.At c.in-At.at c.in-At.entry) c.in-At.ensures.model calls.none
+          (λ s p shows f h. ghost_removed s p shows c.in-At.at c.in-At.entry c.in-Ghost.is c.drop_ghost.ensures.model f h);
     }

@@ -23,7 +23,7 @@ returns g c =
     record {
       sound = c.shrink.ensures.sound;
       terms = terms_on x x₁ x' c.resettle.ensures.terms c.shrink.ensures.used.terms;
-      model = replaces _ _ _ c.args.at r (record { key = c.args.key; weight = c.args.weight; value = c.args.value; state = r.state; reads = c.reads-after-reads.result }) c.args.key c.args.value x x₁ x' c.args.state.now c.hook.new.state c.shrink.new.state
-          c.requires.here (ap (λ (n : ℕ). made n c.reads-after-reads.result) c.requires.weight ∙ ap (made _) c.reads-after-reads.ensures)
+      model = replaces _ _ _ c.args.at r (record { key = c.args.key; weight = c.args.weight; value = c.args.value; state = r.state; reads = c.reads_after-reads.result }) c.args.key c.args.value x x₁ x' c.args.state.now c.hook.new.state c.shrink.new.state
+          c.requires.here (ap (λ (n : ℕ). made n c.reads_after-reads.result) c.requires.weight ∙ ap (made _) c.reads_after-reads.ensures)
           c.resettle.ensures.terms c.resettle.ensures.model c.hook.ensures c.shrink.ensures.used.terms c.shrink.ensures.model;
     }

@@ -33,7 +33,7 @@ append-requires g c =
     record {
       sound = held_over c.args.at (E.Resident c.args.old) (E.Resident c.args.new) x x₁ c.requires.here c.overwrite.ensures.places up;
       kind = ap kind_of (entry_new c.args.at (E.Resident c.args.old) (E.Resident c.args.new) x x₁ c.requires.here c.overwrite.ensures.items up)
-          ∙ kind_ring c.args.new (ne_eqb c.args.new.weight 0 c.if-new-eq0.false) ∙ ap in_ring (sym c.ring-of.ensures);
+          ∙ kind_ring c.args.new (ne_eqb c.args.new.weight 0 c.if-new-eq0.false) ∙ ap in_ring (sym c.ring_of.ensures);
     }
 
 pub returns-then-old-eq0 : goal.returns-then-old-eq0
@@ -46,36 +46,36 @@ returns-then-old-eq0 g c =
       terms = terms_before x x₁ x' c.overwrite.ensures.terms c.append.ensures.entries;
       model = resettles_in c.args.at c.args.old c.args.new x x₁ x' c.requires.here (eq-eqb c.args.old.weight 0 c.if-old-eq0.true) (ne_eqb c.args.new.weight 0 c.if-new-eq0.false)
           c.overwrite.ensures.places c.overwrite.ensures.items c.overwrite.ensures.hashes
-          (subst (λ n. Appends n c.args.at x₁ x') c.ring-of.ensures c.append.ensures.places) c.append.ensures.entries;
+          (subst (λ n. Appends n c.args.at x₁ x') c.ring_of.ensures c.append.ensures.places) c.append.ensures.entries;
     }
 
-pub turn-out-requires : goal.turn-out-requires
-turn-out-requires g c =
+pub turn_out-requires : goal.turn_out-requires
+turn_out-requires g c =
     record {
       sound = c.requires.sound;
-      there = subst (λ n. 1 ≤ count c.args.at (ring_places n c.args.self.now)) (sym c.ring-of-then-new-eq0-2.ensures)
+      there = subst (λ n. 1 ≤ count c.args.at (ring_places n c.args.self.now)) (sym c.ring_of-then-new-eq0-2.ensures)
           (there c.args.at c.args.old c.args.self.now (ne_eqb c.args.old.weight 0 c.if-old-eq0.false) c.requires.here c.requires.sound);
     }
 
 pub overwrite-requires-then-new-eq0-2 : goal.overwrite-requires-then-new-eq0-2
 overwrite-requires-then-new-eq0-2 g c =
-    let w = c.turn-out.ensures.sound in
+    let w = c.turn_out.ensures.sound in
     record { place = hand_below w c.args.at (count_head c.args.at []); size = size_bound w; counted = w.counted }
 
 pub returns-then-new-eq0-2 : goal.returns-then-new-eq0-2
 returns-then-new-eq0-2 g c =
     let x = c.args.self.now in
-    let x₁ = c.turn-out.new.self in
+    let x₁ = c.turn_out.new.self in
     let x' = c.overwrite-then-new-eq0-2.new.self in
-    let here₁ = entry_moved c.args.at (E.Resident c.args.old) x x₁ c.turn-out.ensures.entries c.requires.here in
+    let here₁ = entry_moved c.args.at (E.Resident c.args.old) x x₁ c.turn_out.ensures.entries c.requires.here in
     let o = c.overwrite-then-new-eq0-2.ensures in
     let z = eq-eqb c.args.new.weight 0 c.if-new-eq0-2.true in
     record {
-      sound = down_sound c.args.at c.args.new x' z (entry_new c.args.at (E.Resident c.args.old) (E.Resident c.args.new) x₁ x' here₁ o.items c.turn-out.ensures.sound)
-          (held_over c.args.at (E.Resident c.args.old) (E.Resident c.args.new) x₁ x' here₁ o.places c.turn-out.ensures.sound);
-      terms = terms_after x x₁ x' c.turn-out.ensures.entries o.terms;
+      sound = down_sound c.args.at c.args.new x' z (entry_new c.args.at (E.Resident c.args.old) (E.Resident c.args.new) x₁ x' here₁ o.items c.turn_out.ensures.sound)
+          (held_over c.args.at (E.Resident c.args.old) (E.Resident c.args.new) x₁ x' here₁ o.places c.turn_out.ensures.sound);
+      terms = terms_after x x₁ x' c.turn_out.ensures.entries o.terms;
       model = resettles_out c.args.at c.args.old c.args.new x x₁ x' c.requires.here (ne_eqb c.args.old.weight 0 c.if-old-eq0.false) z
-          (subst (λ n. TurnsOut n c.args.at x x₁) c.ring-of-then-new-eq0-2.ensures c.turn-out.ensures.places) c.turn-out.ensures.entries o.places o.items o.hashes;
+          (subst (λ n. TurnsOut n c.args.at x x₁) c.ring_of-then-new-eq0-2.ensures c.turn_out.ensures.places) c.turn_out.ensures.entries o.places o.items o.hashes;
     }
 
 pub overwrite-requires-2 : goal.overwrite-requires-2

@@ -19,7 +19,7 @@ pub delete-requires : goal.delete-requires
 delete-requires g c =
     record {
       sound = c.requires.sound;
-      there = subst (λ n. 1 ≤ count c.args.at (ring_places n c.args.self.now)) (sym c.ring-of.ensures)
+      there = subst (λ n. 1 ≤ count c.args.at (ring_places n c.args.self.now)) (sym c.ring_of.ensures)
           (there c.args.at c.args.r c.args.self.now (ne_eqb c.args.r.weight 0 c.if-r-eq0.false) c.requires.here c.requires.sound);
     }
 
@@ -29,5 +29,5 @@ returns g c =
       sound = c.delete.ensures.sound;
       entries = c.delete.ensures.entries;
       model = takes_out_ring c.args.at c.args.r c.args.self.now c.delete.new.self (ne_eqb c.args.r.weight 0 c.if-r-eq0.false)
-          (subst (λ n. Deletes n c.args.at c.args.self.now c.delete.new.self) c.ring-of.ensures c.delete.ensures.places) c.delete.ensures.entries c.requires.here;
+          (subst (λ n. Deletes n c.args.at c.args.self.now c.delete.new.self) c.ring_of.ensures c.delete.ensures.places) c.delete.ensures.entries c.requires.here;
     }
