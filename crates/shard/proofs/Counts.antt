@@ -1,6 +1,7 @@
 -- Counts of places, and sums over the slots of a shard.
-use Rattle.std.proofs.Common.{◌≡◌, ℕ, zero, suc, ◌+◌, ◌*◌, ◌<◌, ◌≤◌, Bool, true, false, List, [], ◌∷◌, ◌++◌, length, get_or, set, is_some, Some, None, Option, sym, refl, ap, ◌∙◌, subst, ⊎_elim, suc-mul, arith, MatchOption}
-use Rattle.std.proofs.lemmas.Bool.{eq-eqb, ne_eqb, cond-true, cond-false, cases_eq, both_ways}
+use Rattle.std.proofs.Common.{◌≡◌, ℕ, zero, suc, ◌+◌, ◌*◌, ◌<◌, ◌≤◌, Bool, true, false, List, [], ◌∷◌, ◌++◌, length, get_or, set, is_some, Some, None, Option, sym, refl, ap, ◌∙◌, subst, ⊎_elim, suc-mul, arith, eqb}
+use Rattle.std.specs.Option.{option_eq}
+use Rattle.std.proofs.lemmas.Bool.{eq-eqb, eqb-true, ne_eqb, cond-true, cond-false, cases_eq, both_ways}
 use Rattle.ring_slab.specs.Places.{one, count, head_of, front, rest}
 use Rattle.ring_slab.proofs.Counts.{one_at, one_off}
 use Rattle.model.specs.Lists.{sum_of}
@@ -50,8 +51,10 @@ count_front k [] = refl
 count_front k (y ∷ v) = omega arith
 
 -- what a test of an optional place says of it
-pub test_of : (o : Option ℕ) (at : ℕ) (r : Bool) → MatchOption o (r ≡ false) (λ i. (r ≡ true → i ≡ at) × (i ≡ at → r ≡ true)) → (h : ℕ) → o ≡ Some h → (r ≡ true → h ≡ at) × (h ≡ at → r ≡ true)
-test_of o at r t h e = let P : Option ℕ → Type 0 = λ o. MatchOption o (r ≡ false) (λ i. (r ≡ true → i ≡ at) × (i ≡ at → r ≡ true)) in subst P e t
+pub test_of : (o : Option ℕ) (at : ℕ) (r : Bool) → r ≡ option_eq eqb o (Some at) → (h : ℕ) → o ≡ Some h → (r ≡ true → h ≡ at) × (h ≡ at → r ≡ true)
+test_of o at r t h e =
+    let q : r ≡ eqb h at = t ∙ ap (λ (z : Option ℕ). option_eq eqb z (Some at)) e in
+    (λ z. eqb-true h at (sym q ∙ z), λ z. q ∙ eq-eqb h at z)
 
 -- ---- sums
 module _ {X : Type 0} (f : X → ℕ) where

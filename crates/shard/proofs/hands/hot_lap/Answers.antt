@@ -16,7 +16,7 @@ pub touch-requires : goal.touch-requires
 touch-requires g c =
     let s = slots_of c.args.slab.now in
     let n = walk_length (look (nexts s)) c.args.head c.args.len in
-    let t = (standing s (walk (look (nexts s)) c.args.head c.args.len) c.lap.at c.lap.-i c.requires (omega arith) c.lap.invariant.0.walking).within in
+    let t = (standing s (walk (look (nexts s)) c.args.head c.args.len) c.lap.at c.lap._i c.requires (omega arith) c.lap.invariant.0.walking).within in
     omega (arith, c.lap.invariant.0.links.len)
 
 pub returns-in-Stop : goal.returns-in-Stop
@@ -26,14 +26,14 @@ returns-in-Stop g c =
     let e = c.in-Stop.ensures in
     record {
       shape = shape_trans c.lap.invariant.1 e.shape;
-      lapped = mid_stop (g.L.Lifecycle.life c.args.life.now).pins (walk (look (nexts s)) c.args.head c.args.len) s (slots_of c.lap.slab) (slots_of c.touch.new.slab) c.lap.at c.lap.-i c.lap.all c.requires (omega arith) c.lap.invariant.0 e.items e.met;
+      lapped = mid_stop (g.L.Lifecycle.life c.args.life.now).pins (walk (look (nexts s)) c.args.head c.args.len) s (slots_of c.lap.slab) (slots_of c.touch.new.slab) c.lap.at c.lap._i c.lap.all c.requires (omega arith) c.lap.invariant.0 e.items e.met;
     }
 
 pub next_of-at-requires : goal.next_of-at-requires
 next_of-at-requires g c =
     let s = slots_of c.args.slab.now in
     let n = walk_length (look (nexts s)) c.args.head c.args.len in
-    let t = (standing s (walk (look (nexts s)) c.args.head c.args.len) c.lap.at c.lap.-i c.requires (omega arith) c.lap.invariant.0.walking).within in
+    let t = (standing s (walk (look (nexts s)) c.args.head c.args.len) c.lap.at c.lap._i c.requires (omega arith) c.lap.invariant.0.walking).within in
     omega (arith, c.lap.invariant.0.links.len, c.touch.ensures.shape.links.len)
 
 pub lap-preserved : goal.lap-preserved
@@ -42,8 +42,8 @@ lap-preserved g c =
     let p = (g.L.Lifecycle.life c.args.life.now).pins in
     let xs = walk (look (nexts s)) c.args.head c.args.len in
     let n = walk_length (look (nexts s)) c.args.head c.args.len in
-    let go = mid_more p xs s (slots_of c.lap.slab) (slots_of c.touch.new.slab) c.lap.at c.next_of-at.result c.lap.-i c.lap.all in
-    let P : Bool → Type 0 = λ z. Mid p xs s (slots_of c.touch.new.slab) c.next_of-at.result (c.lap.-i + 1) z in
+    let go = mid_more p xs s (slots_of c.lap.slab) (slots_of c.touch.new.slab) c.lap.at c.next_of-at.result c.lap._i c.lap.all in
+    let P : Bool → Type 0 = λ z. Mid p xs s (slots_of c.touch.new.slab) c.next_of-at.result (c.lap._i + 1) z in
     let sh = shape_trans c.lap.invariant.1 c.touch.ensures.shape in
     elim c.match-touch.branch [
       | in-Unpinned w ↦
@@ -62,7 +62,7 @@ returns-then-all g c =
     let n = walk_length (look (nexts s)) c.args.head c.args.len in
     record {
       shape = c.lap.invariant.1;
-      lapped = mid_pinned p xs s (slots_of c.lap.slab) c.lap.at c.lap.-i (omega arith) (subst (λ z. Mid p xs s (slots_of c.lap.slab) c.lap.at c.lap.-i z) c.if-all.true c.lap.invariant.0);
+      lapped = mid_pinned p xs s (slots_of c.lap.slab) c.lap.at c.lap._i (omega arith) (subst (λ z. Mid p xs s (slots_of c.lap.slab) c.lap.at c.lap._i z) c.if-all.true c.lap.invariant.0);
     }
 
 pub returns-else-all : goal.returns-else-all
@@ -73,5 +73,5 @@ returns-else-all g c =
     let n = walk_length (look (nexts s)) c.args.head c.args.len in
     record {
       shape = c.lap.invariant.1;
-      lapped = mid_unpinned p xs s (slots_of c.lap.slab) c.lap.at c.lap.-i (omega arith) (subst (λ z. Mid p xs s (slots_of c.lap.slab) c.lap.at c.lap.-i z) c.if-all.false c.lap.invariant.0);
+      lapped = mid_unpinned p xs s (slots_of c.lap.slab) c.lap.at c.lap._i (omega arith) (subst (λ z. Mid p xs s (slots_of c.lap.slab) c.lap.at c.lap._i z) c.if-all.false c.lap.invariant.0);
     }

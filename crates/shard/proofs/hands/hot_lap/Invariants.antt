@@ -8,5 +8,5 @@ use Rattle.shard.proofs.hands.hot_lap.Given as goal
 
 abbrev pub invariant-lap : goal.invariant-lap
 invariant-lap g l =
-    Mid (g.L.Lifecycle.life l.life).pins (walk (look (nexts (slots_of l.initial.slab))) l.head l.len) (slots_of l.initial.slab) (slots_of l.slab) l.at l.-i l.all
+    Mid (g.L.Lifecycle.life l.life).pins (walk (look (nexts (slots_of l.initial.slab))) l.head l.len) (slots_of l.initial.slab) (slots_of l.slab) l.at l._i l.all
     × SameShape l.initial.slab l.slab

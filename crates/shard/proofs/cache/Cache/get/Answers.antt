@@ -7,7 +7,7 @@ pub get-requires : goal.get-requires
 get-requires g c = opened c.args.self.now.shard [] c.args.self.now.sound
 
 pub invariant_of-self : goal.invariant_of-self
-invariant_of-self g c = (∣ c.get.ensures.sound ∣₁, tt)
+invariant_of-self g c = record { sound = ∣ c.get.ensures.sound ∣₁ }
 
 pub returns : goal.returns
 returns g c = c.get.ensures.model

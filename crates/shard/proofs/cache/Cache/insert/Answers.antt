@@ -7,7 +7,7 @@ pub insert-requires : goal.insert-requires
 insert-requires g c = opened c.args.self.now.shard [] c.args.self.now.sound
 
 pub invariant_of-self : goal.invariant_of-self
-invariant_of-self g c = (∣ c.insert.ensures.sound ∣₁, tt)
+invariant_of-self g c = record { sound = ∣ c.insert.ensures.sound ∣₁ }
 
 pub returns : goal.returns
 returns g c = c.insert.ensures.model

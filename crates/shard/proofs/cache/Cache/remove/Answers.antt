@@ -7,7 +7,7 @@ pub remove-requires : goal.remove-requires
 remove-requires g c = opened c.args.self.now.shard [] c.args.self.now.sound
 
 pub invariant_of-self : goal.invariant_of-self
-invariant_of-self g c = (∣ c.remove.ensures.sound ∣₁, tt)
+invariant_of-self g c = record { sound = ∣ c.remove.ensures.sound ∣₁ }
 
 pub returns : goal.returns
 returns g c = c.remove.ensures.model

@@ -23,8 +23,8 @@ returns g c =
     let hs : hashes (slots_of m) ≡ hashes (slots x) = c.unlink-next.ensures.chains.hashes in
     let head = c.ring-ring.result.head in
     let test = test_of head c.args.at c.eq.result c.eq.ensures in
-    let stays : (h : ℕ) → head ≡ Some h → (h ≡ c.args.at → ⊥) → c.if-eq.head ≡ Some h = λ h e ne. elim c.if-eq.branch [ then-eq w ↦ absurd (ne ((test h e).0 w.if-eq.true)) | else-eq w ↦ w.head_is ∙ e ] in
-    let goes : head ≡ Some c.args.at → c.if-eq.head ≡ c.unlink-next.result = λ e. elim c.if-eq.branch [ then-eq w ↦ w.head_is | else-eq w ↦ absurd (both_ways c.eq.result w.if-eq.false ((test c.args.at e).1 refl)) ] in
+    let stays : (h : ℕ) → head ≡ Some h → (h ≡ c.args.at → ⊥) → c.if-eq.head ≡ Some h = λ h e ne. elim c.if-eq.branch [ then-eq w ↦ absurd (ne ((test h e).0 w.if-eq.true)) | else-eq w ↦ w.head-is ∙ e ] in
+    let goes : head ≡ Some c.args.at → c.if-eq.head ≡ c.unlink-next.result = λ e. elim c.if-eq.branch [ then-eq w ↦ w.head-is | else-eq w ↦ absurd (both_ways c.eq.result w.if-eq.false ((test c.args.at e).1 refl)) ] in
     record {
       sound = delete_sound c.args.name c.args.at x x' m c.ring-ring.result c.unlink-next.result c.ring-ring.ensures c.unlink-next.ensures.lists c.unlink-next.ensures.items hs c.if-eq.head stays goes c.set_ring.ensures c.requires.sound c.requires.there;
       places = delete_places c.args.name c.args.at x x' m c.ring-ring.result c.unlink-next.result c.ring-ring.ensures c.unlink-next.ensures.lists c.unlink-next.ensures.items hs c.if-eq.head stays goes c.set_ring.ensures;

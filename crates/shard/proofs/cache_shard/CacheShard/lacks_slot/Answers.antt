@@ -15,7 +15,7 @@ returns-in-Nothing g c =
     ∙ sym (slot_is c.args.strategy I.Insert c.args.found F.Nothing c.args.self.now c.in-Insert.is c.in-Nothing.is)
 
 pub returns-in-At : goal.returns-in-At
-returns-in-At g c = sym (slot_is c.args.strategy I.Insert c.args.found (F.At c.in-At.-at c.in-At.-entry) c.args.self.now c.in-Insert.is c.in-At.is)
+returns-in-At g c = sym (slot_is c.args.strategy I.Insert c.args.found (F.At c.in-At._at c.in-At._entry) c.args.self.now c.in-Insert.is c.in-At.is)
 
 pub returns-in-Replace : goal.returns-in-Replace
 returns-in-Replace g c = sym (ap (λ (z : InsertStrategy). no_slot z c.args.found c.args.self.now) c.in-Replace.is)

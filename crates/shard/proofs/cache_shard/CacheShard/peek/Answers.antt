@@ -17,15 +17,15 @@ returns-in-Nothing g c =
 
 pub returns-in-Resident : goal.returns-in-Resident
 returns-in-Resident g c =
-    peek_follows _ (keeps _ g.met.K.Key.symmetric g.met.K.Key.transitive) c.args.key.now c.args.self.now c.args.self.now (same_terms c.args.self.now) (F.At c.in-At.-at c.in-At.entry) c.in-At.ensures.model (calls.copied c.in-Resident.r.value)
-    (λ s p shows f h. peeked s p shows c.in-At.-at c.in-At.entry c.in-Resident.r c.in-Resident.is f h)
+    peek_follows _ (keeps _ g.met.K.Key.symmetric g.met.K.Key.transitive) c.args.key.now c.args.self.now c.args.self.now (same_terms c.args.self.now) (F.At c.in-At._at c.in-At.entry) c.in-At.ensures.model (calls.copied c.in-Resident.r.value)
+    (λ s p shows f h. peeked s p shows c.in-At._at c.in-At.entry c.in-Resident.r c.in-Resident.is f h)
 
 pub returns-in-Placeholder : goal.returns-in-Placeholder
 returns-in-Placeholder g c =
-    peek_follows _ (keeps _ g.met.K.Key.symmetric g.met.K.Key.transitive) c.args.key.now c.args.self.now c.args.self.now (same_terms c.args.self.now) (F.At c.in-At.-at c.in-At.entry) c.in-At.ensures.model calls.none
-    (λ s p shows f h. peek_other s p shows c.in-At.-at c.in-At.entry (omega (arith, ap entry_code c.in-Placeholder.is)) f h)
+    peek_follows _ (keeps _ g.met.K.Key.symmetric g.met.K.Key.transitive) c.args.key.now c.args.self.now c.args.self.now (same_terms c.args.self.now) (F.At c.in-At._at c.in-At.entry) c.in-At.ensures.model calls.none
+    (λ s p shows f h. peek_other s p shows c.in-At._at c.in-At.entry (omega (arith, ap entry_code c.in-Placeholder.is)) f h)
 
 pub returns-in-Ghost : goal.returns-in-Ghost
 returns-in-Ghost g c =
-    peek_follows _ (keeps _ g.met.K.Key.symmetric g.met.K.Key.transitive) c.args.key.now c.args.self.now c.args.self.now (same_terms c.args.self.now) (F.At c.in-At.-at c.in-At.entry) c.in-At.ensures.model calls.none
-    (λ s p shows f h. peek_other s p shows c.in-At.-at c.in-At.entry (omega (arith, ap entry_code c.in-Ghost.is)) f h)
+    peek_follows _ (keeps _ g.met.K.Key.symmetric g.met.K.Key.transitive) c.args.key.now c.args.self.now c.args.self.now (same_terms c.args.self.now) (F.At c.in-At._at c.in-At.entry) c.in-At.ensures.model calls.none
+    (λ s p shows f h. peek_other s p shows c.in-At._at c.in-At.entry (omega (arith, ap entry_code c.in-Ghost.is)) f h)
