@@ -11,7 +11,6 @@ use Rattle.model.specs.Calls.{Answer, Call, Edit, Found, State, Strategy, ask, b
 use Rattle.model.specs.Ledger.{Ledger}
 use Rattle.model.specs.Laws.{AllGenuine, Told, Trims, back, brings, handed_over, with_record}
 use Rattle.model.proofs.Lists.{loop_keeps, when_both}
-use Rattle.model.proofs.Numbers.{over}
 use Rattle.model.proofs.Searching.{admitted, insert_only_both}
 
 -- what trims and hooks keep, the hands keep

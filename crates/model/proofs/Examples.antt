@@ -2,9 +2,8 @@
 use Rattle.std.proofs.Common.{refl}
 use lib.Ieee.{mul, div, of_int, to_unsigned, le}
 use Rattle.model.specs.Lists.{when}
-use Rattle.model.specs.Entries.{promoted}
 use Rattle.model.specs.Hands.{cold_hand, cool, hot_hand, shrink}
-use Rattle.model.specs.Calls.{edited, step, too_heavy}
+use Rattle.model.specs.Calls.{step}
 use Rattle.model.specs.Ledger.{follow}
 use Rattle.model.specs.Examples.{Examples, FinerExamples}
 

@@ -7,7 +7,6 @@ use Rattle.model.specs.Lists.{Pick, every, here, nothing, onward, pick, sum_of}
 use Rattle.model.specs.Entries.{Placeholder, Resident, Where, at, cold_ring, hot_ring, list, nowhere, off_rings, spot_or}
 use Rattle.model.specs.Calls.{Call, State, by_edit, closed, eventless, found_ghost, found_placeholder, found_resident, has_key, inside_edit, on, on_nothing, outcome, outside_edit, placeholder_at, resident_at, resident_of, search_for, step}
 use Rattle.model.specs.Standing.{matches}
-use Rattle.model.specs.Laws.{one}
 use Rattle.model.proofs.Lists.{sum_append, when_both}
 
 -- a test that fails everywhere picks nothing

@@ -2,7 +2,7 @@
 use Rattle.std.proofs.Common.{◌≡◌, ℕ, zero, suc, ◌+◌, ◌<◌, ◌≤◌, true, false, cond, eqb, ◌⊎◌, List, [], ◌∷◌, Option, refl, ◌∙◌, inl, inr, arith}
 use Rattle.std.proofs.lemmas.Bool.{eq-eqb, cond_both, cases_Bool, eqb-true, eqb-false}
 use Rattle.model.specs.Lists.{Each, sum_of}
-use Rattle.model.specs.Entries.{Event, Resident, at, handed_back, hooked, offered, removed, trimmed, written}
+use Rattle.model.specs.Entries.{Event, Resident, handed_back, hooked, offered, removed, trimmed, written}
 use Rattle.model.specs.Laws.{AsNoted, LeftAsNoted, back_of, cold_hook_of, hot_hook_of, number_is, one}
 
 -- 1 where n is one of 1, 2, .. m, else 0

@@ -5,8 +5,6 @@ use Rattle.std.proofs.lemmas.List.{append-nil}
 use Rattle.model.specs.Lists.{Pick, every, here, mapped, nothing, rotated}
 use Rattle.model.specs.Entries.{Resident, Rings, less_read}
 use Rattle.model.specs.Hands.{Context, cold_found, cold_hand, cold_stop, hot_found, hot_hand, hot_stop, hot_walk, pinned, walk_steps}
-use Rattle.model.specs.Calls.{shrunk}
-use Rattle.model.specs.Weight.{unpinned}
 use Rattle.model.specs.Promises.{LawsOfHands, TakesOut, stays, unread}
 use Rattle.model.proofs.Lists.{Picked, picked, when_both}
 use Rattle.model.proofs.Walks.{cooled, hot_answer, relieved}

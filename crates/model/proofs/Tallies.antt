@@ -8,7 +8,7 @@ use Rattle.settings.specs.Rules.{Limits, resized}
 use Rattle.model.specs.Lists.{Pick, here, nothing, pick, sum_of}
 use Rattle.model.specs.Entries.{Event, Placeholder, Resident, Rings, Spot, Where, at, hooked, keep_at, list, more_read, nowhere, put_ghosts, reweighed, rewritten, settle, trimmed}
 use Rattle.model.specs.Hands.{Context, Policy, shrink}
-use Rattle.model.specs.Calls.{Answer, Call, Edit, Found, State, Strategy, ask, by_edit, close, closed, context, do_ask, do_close, do_fill, do_get, do_insert, do_open, do_peek, do_read, do_remove, do_set_capacity, do_write, dropped, edited, entered, entries, eventless, fill, fill_let_in, filled, fits_hot, get, ghost_at, give_up, has_key, has_ticket, insert, insert_let_in, insert_turn_away, inside_edit, lacks_slot, let_in, new_resident, no_slot_free, not_found, noted_in, on, on_nothing, open_edit, ousted, outside_edit, peek, placeholder_at, plain, read, reads_after, remove, replace, resident_at, resident_of, search_for, set_capacity, shrunk, soft_replace, step, ticket, ticketed, to_cold_hook, turned_away, with_placeholders, with_rings, write}
+use Rattle.model.specs.Calls.{Answer, Call, Edit, Found, State, Strategy, ask, by_edit, close, closed, context, do_ask, do_close, do_fill, do_get, do_insert, do_open, do_peek, do_read, do_remove, do_set_capacity, do_write, dropped, edited, entered, entries, eventless, fill, fill_let_in, filled, fits_hot, get, ghost_at, give_up, has_key, has_ticket, insert, insert_let_in, insert_turn_away, inside_edit, lacks_slot, let_in, new_resident, no_slot_free, not_found, noted_in, on, on_nothing, open_edit, ousted, outside_edit, peek, placeholder_at, plain, read, reads_after, remove, replace, resident_at, resident_of, search_for, set_capacity, shrunk, soft_replace, step, ticketed, to_cold_hook, turned_away, with_placeholders, with_rings, write}
 use Rattle.model.specs.Standing.{key_is, matches}
 use Rattle.model.proofs.Lists.{Picked, picked, sum_append, when_both}
 use Rattle.model.proofs.Searching.{Known, Spotted, admitted, insert_only_both, known, spotted, spotted_edit}

@@ -7,7 +7,7 @@ use Rattle.settings.specs.Rules.{Limits, resized}
 use Rattle.model.specs.Lists.{Each, Pick, every, here, nothing, pick, sum_of}
 use Rattle.model.specs.Entries.{Placeholder, Rings, Spot, at, nowhere, put_ghosts}
 use Rattle.model.specs.Hands.{Context, Policy}
-use Rattle.model.specs.Calls.{Answer, Call, Edit, Found, State, Strategy, ask, by_edit, close, closed, context, do_ask, do_close, do_fill, do_get, do_insert, do_open, do_peek, do_read, do_remove, do_set_capacity, do_write, dropped, edited, eventless, fill, fill_let_in, filled, get, ghost_at, give_up, has_ticket, insert, insert_let_in, insert_turn_away, inside_edit, let_in, none, not_found, on, on_nothing, open_edit, ousted, outside_edit, peek, placeholder_at, plain, read, remove, replace, resident_at, resident_of, search_for, set_capacity, soft_replace, step, ticket, ticketed, to_cold_hook, turned_away, with_placeholders, with_rings, write}
+use Rattle.model.specs.Calls.{Answer, Call, Edit, Found, State, Strategy, ask, by_edit, close, closed, context, do_ask, do_close, do_fill, do_get, do_insert, do_open, do_peek, do_read, do_remove, do_set_capacity, do_write, dropped, edited, eventless, fill, fill_let_in, filled, get, ghost_at, give_up, has_ticket, insert, insert_let_in, insert_turn_away, inside_edit, let_in, not_found, on, on_nothing, open_edit, ousted, outside_edit, peek, placeholder_at, plain, read, remove, replace, resident_at, resident_of, search_for, set_capacity, soft_replace, step, ticket, ticketed, to_cold_hook, turned_away, with_placeholders, with_rings, write}
 use Rattle.model.specs.Ledger.{asked, can_make, of_edit, opened, spent, tickets_after}
 use Rattle.model.specs.Standing.{matches}
 use Rattle.model.specs.Laws.{Awaited, Tickets, has_number, one, open_number}

@@ -2,7 +2,7 @@
 use Rattle.std.proofs.Common.{◌≡◌, ℕ, zero, suc, ◌+◌, ◌-◌, ◌*◌, ◌<◌, ◌≤◌, Bool, true, false, cond, not, ◌&&◌, ◌||◌, ltb, ◌⊎◌, List, [], ◌∷◌, ◌++◌, length, refl, ap, ◌∙◌, inl, inr, arith, length-append}
 use Rattle.std.proofs.lemmas.Bool.{and_parts, and_from, or_cases, or_parts, ltb-true, ltb-false, not-true, not-false, both_ways, true≢false, false≢true}
 use Rattle.model.specs.Lists.{Pick, every, here, mapped, nothing, pick, sum_of, when}
-use Rattle.model.specs.Entries.{Resident, Rings, at, cold_ring, hot_ring, less_read, note, promoted, put, reweighed, ring_weight, trimmed, weights}
+use Rattle.model.specs.Entries.{Resident, Rings, cold_ring, hot_ring, less_read, note, promoted, put, reweighed, ring_weight, trimmed, weights}
 use Rattle.model.specs.Hands.{Context, cold_found, cold_hand, cool, evict, hot_found, hot_hand, hot_walk, leave, pinned, shrink, walk_steps}
 use Rattle.model.proofs.Lists.{Ends, Picked, loop_ends, loop_keeps, picked, sum_append, when_both}
 

@@ -5,7 +5,7 @@ use Rattle.ring_slab.specs.declared.slots.Slot.{Slot}
 use Rattle.ring_slab.specs.Places.{look, count, count_in, lengths, head_of}
 use Rattle.ring_slab.specs.Slots.{nexts, hashes}
 use Rattle.ring_slab.specs.Rings.{Ring, KeptOff, ring_from, Linked, Linkable}
-use Rattle.ring_slab.specs.Chains.{Ends, chain, chain_of, free_of, home_of, Chained}
+use Rattle.ring_slab.specs.Chains.{Ends, chain_of, free_of, home_of, Chained}
 use Rattle.ring_slab.specs.Holding.{total, Rings, Holds}
 use Rattle.ring_slab.proofs.Counts.{one_at, one_off, count_head, placed_length, all_length}
 use Rattle.ring_slab.proofs.Writes.{links, ring_kept}

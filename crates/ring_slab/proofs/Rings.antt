@@ -1,7 +1,7 @@
 -- The laws of runs and rings.
-use Rattle.std.proofs.Common.{◌≡◌, ℕ, ◌+◌, ◌≤◌, List, [], ◌∷◌, ◌++◌, length, sym, refl, ap, ◌∙◌, subst, arith}
+use Rattle.std.proofs.Common.{◌≡◌, ℕ, ◌≤◌, List, [], ◌∷◌, ◌++◌, length, sym, refl, ap, ◌∙◌, subst, arith}
 use Rattle.std.proofs.lemmas.List.{append-nil}
-use Rattle.ring_slab.specs.Places.{one, count}
+use Rattle.ring_slab.specs.Places.{count}
 use Rattle.ring_slab.specs.Rings.{Run, Cycle, walk}
 use Rattle.ring_slab.proofs.Counts.{one_at, count_head, apart}
 

@@ -2,7 +2,7 @@
 use Rattle.std.proofs.Common.{◌≡◌, ℕ, ◌+◌, ◌<◌, ◌≤◌, List, [], ◌∷◌, ◌++◌, length, set, Some, None, sym, refl, ap, ◌∙◌, subst, ⊎_elim, arith}
 use Rattle.std.proofs.lemmas.List.{length-set, length-map, get_or-set_same, get_or-set_other}
 use Rattle.std.proofs.lemmas.Bool.{cases_eq}
-use Rattle.ring_slab.specs.Places.{look, one, count, head_of}
+use Rattle.ring_slab.specs.Places.{look, count, head_of}
 use Rattle.ring_slab.specs.Slots.{nexts, prevs}
 use Rattle.ring_slab.specs.Rings.{Ring, KeptOff, Linked}
 use Rattle.ring_slab.specs.declared.slots.Slot.{Slot}

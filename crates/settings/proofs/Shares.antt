@@ -1,13 +1,12 @@
 -- A share of a whole number up to 2^53 is at most that number, whatever the rounding does.
-use Rattle.std.proofs.Common.{◌≡◌, ℕ, zero, suc, ◌+◌, ◌-◌, ◌*◌, ◌/◌, ◌^◌, ◌<◌, ◌≤◌, min, Bool, true, false, cond, ◌&&◌, ◌||◌, T, eqb, ltb, ◌⊎◌, ℤ, pos, sym, refl, ap, ◌∙◌, subst, inl, inr, true≢false, le_trans, le_of_eq, mul_assoc, mul_comm, mul-le-mul_left, mul-pos, one-mul, mul-one, mul-div_cancel, mul_left_comm, arith, lit<, eqb→eq, ltb→lt}
-use lib.Ieee.{Float, nan, inf, fin, Format, binary64, prec, emax, low, up, down, round, units, odd, mul, le, of_int, to_unsigned}
+use Rattle.std.proofs.Common.{◌≡◌, ℕ, zero, suc, ◌+◌, ◌*◌, ◌/◌, ◌^◌, ◌<◌, ◌≤◌, Bool, true, false, cond, ◌&&◌, ◌||◌, T, eqb, ltb, pos, sym, refl, ap, ◌∙◌, subst, true≢false, le_of_eq, mul_assoc, mul-le-mul_left, mul-pos, one-mul, mul-one, mul-div_cancel, arith, lit<, eqb→eq, ltb→lt}
+use lib.Ieee.{Float, nan, inf, fin, binary64, prec, emax, low, up, down, round, units, odd, mul, le, of_int, to_unsigned}
 use lib.Ieee.Fits.{down_pos, round_is}
 use lib.Ieee.Exact.{HasValue}
 use lib.Ieee.Back.{round_whole}
 use lib.Ieee.Nearest.{div_mono}
 use lib.Ieee.Order.{round_mono}
-use lib.Ieee.Scale.{round_same}
-use Rattle.settings.specs.Rules.{scaled, within_share, most_weight}
+use Rattle.settings.specs.Rules.{scaled, within_share}
 
 -- a ≤ b of a test for less or equal
 either : (a b : ℕ) (c : Bool) → T (ltb a b || (eqb a b && c)) → a ≤ b

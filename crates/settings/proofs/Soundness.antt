@@ -1,11 +1,10 @@
 -- Settings are sound as they are made, and stay so under every list of new capacities.
-use Rattle.std.proofs.Common.{◌≡◌, ℕ, ◌^◌, ◌≤◌, min, max, Bool, true, false, cond, ◌&&◌, eqb, ltb, List, [], ◌∷◌, Ok, Err, Result, sym, refl, ap, ◌∙◌, subst, arith}
+use Rattle.std.proofs.Common.{◌≡◌, ℕ, ◌≤◌, Bool, true, false, cond, ◌&&◌, eqb, ltb, [], ◌∷◌, Ok, Err, refl, subst, arith}
 use lib.Ieee.{Float}
-use Rattle.std.proofs.lemmas.Bool.Decides.{nat_tests, leb_tells}
-use Rattle.interface.specs.declared.refusal.Refusal.{Refusal}
+use Rattle.std.proofs.lemmas.Bool.Decides.{nat_tests}
 use Rattle.interface.specs.declared.refusal.Refusal.TheVariants.{CapacityTooLarge, TooManyItems, AllocationOutOfRange, GhostBoundTooLarge}
 use Rattle.settings.proofs.Shares.{scaled_le}
-use Rattle.settings.specs.Rules.{Limits, Sound, StaysSound, standing, after, set_up, fresh, from_none, in_proportion, resized, rescaled, scaled, target_of, ratio, within_share, default_hot, most_weight, most_items}
+use Rattle.settings.specs.Rules.{Limits, Sound, StaysSound, standing, set_up, fresh, from_none, in_proportion, resized, rescaled, scaled, target_of, ratio, within_share, default_hot, most_weight, most_items}
 
 ltb-false : (a b : ℕ) → ltb a b ≡ false → b ≤ a
 ltb-false a b h = grind (arith, nat_tests)

@@ -1,6 +1,6 @@
 -- The rules by which the capacity, the hot target and the ghost bound are set: plain numbers and IEEE 754
 -- floats, nothing of the program but the names of the refusals.
-use Rattle.std.specs.Prelude.{◌≡◌, ℕ, ◌^◌, ◌≤◌, min, max, Bool, false, cond, ◌&&◌, List, [], ◌∷◌, pos, negsuc, Ok, Err, Result, ◌==◌, nat_lt, Float}
+use Rattle.std.specs.Prelude.{ℕ, ◌^◌, ◌≤◌, min, max, Bool, false, cond, ◌&&◌, List, [], ◌∷◌, pos, negsuc, Ok, Err, Result, ◌==◌, nat_lt, Float}
 use Rattle.std.specs.Float.{fin, binary64}
 use Rattle.std.specs.Float.Ieee.{mul, div, of_int, to_unsigned, le}
 use Rattle.interface.specs.declared.refusal.Refusal.{Refusal}

@@ -1,8 +1,7 @@
 -- A worked example: what the settings for capacity 4 and 4 items are, and what new capacities make of them.
-use Rattle.std.specs.Prelude.{◌≡◌, ℕ, false, negsuc, Ok, Err, Result, Float}
+use Rattle.std.specs.Prelude.{◌≡◌, ℕ, false, negsuc, Ok, Float}
 use Rattle.std.specs.Float.{fin, binary64}
 use Rattle.std.specs.Float.Ieee.{round}
-use Rattle.interface.specs.declared.refusal.Refusal.{Refusal}
 use Rattle.settings.specs.Rules.{Limits, default_hot, set_up, resized}
 
 -- 0.5

@@ -1,5 +1,5 @@
 -- Get, peek and remove, against the model's, by what the key finds.
-use Rattle.std.proofs.Common.{◌≡◌, ℕ, ◌≤◌, List, [], ◌∷◌, ◌++◌, sym, refl, ap, ◌∙◌, subst, arith}
+use Rattle.std.proofs.Common.{◌≡◌, ℕ, ◌≤◌, ◌∷◌, sym, refl, ap, ◌∙◌, subst, arith}
 use Rattle.interface.specs.Meaning.{Keying}
 use Rattle.model.specs.Entries as model
 use Rattle.model.specs.Calls as calls
@@ -16,7 +16,7 @@ use Rattle.shard.specs.Shows.{plain, Shows}
 use Rattle.shard.specs.Steps.{SameTerms}
 use Rattle.shard.specs.Finds.{Agrees, Finds}
 use Rattle.shard.specs.Inserts.{Expels, Reads, DropsGhost, DropsPlaceholder}
-use Rattle.shard.specs.Depicts.{Depicts, FollowsPlainly}
+use Rattle.shard.specs.Depicts.{FollowsPlainly}
 use Rattle.shard.specs.Arrivals.{as_spot}
 use Rattle.shard.proofs.Calls.{same_content, resident_spot, Keeps, Comes, follows_plainly}
 

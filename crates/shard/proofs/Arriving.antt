@@ -1,10 +1,10 @@
 -- Records that come in: the parts of an insert against the model's.
-use Rattle.std.proofs.Common.{◌≡◌, ℕ, suc, ◌<◌, ◌≤◌, Bool, true, false, cond, not, ◌&&◌, ltb, List, [], ◌∷◌, ◌++◌, length, set, Some, None, sym, refl, ap, ◌∙◌, subst, arith, le-ltb, lt-ltb}
+use Rattle.std.proofs.Common.{◌≡◌, ℕ, suc, ◌<◌, ◌≤◌, Bool, true, false, cond, not, ◌&&◌, ltb, List, ◌∷◌, ◌++◌, set, Some, sym, refl, ap, ◌∙◌, subst, arith, le-ltb, lt-ltb}
 use Rattle.interface.specs.Meaning.{Keying, Life}
 use Rattle.interface.specs.declared.refusal.Refusal.TheVariants.{Overweight}
 use Rattle.settings.specs.Standing.{limits}
 use Rattle.settings.specs.declared.options.Settings.{Settings}
-use Rattle.model.specs.Lists.{mapped, when}
+use Rattle.model.specs.Lists.{when}
 use Rattle.model.specs.Entries as model
 use Rattle.model.specs.Hands.{Context, shrink}
 use Rattle.model.specs.Calls as calls
@@ -16,7 +16,6 @@ use Rattle.shard.specs.declared.entry.Resident.{Resident}
 use Rattle.shard.specs.declared.entry.Placeholder.{Placeholder}
 use Rattle.shard.specs.declared.entry.Entry.{Entry}
 use Rattle.shard.specs.declared.entry.Entry.TheVariants as E
-use Rattle.shard.specs.declared.entry.ResidentState.{ResidentState}
 use Rattle.shard.specs.declared.entry.ResidentState.TheVariants as R
 use Rattle.shard.specs.declared.strategy.Admission.{Admission}
 use Rattle.shard.specs.declared.strategy.Admission.TheVariants as A
@@ -27,11 +26,10 @@ use Rattle.shard.specs.declared.cache_shard.CacheShard.{CacheShard}
 use Rattle.shard.specs.Tallies.{by_state}
 use Rattle.shard.specs.Layout.{Places, slots, entry_at, hash_at, SameEntries}
 use Rattle.shard.specs.Moves.{Deletes, Overwrites}
-use Rattle.shard.specs.Shows.{plain, waiting, part, seen, Hashed, Shows}
+use Rattle.shard.specs.Shows.{plain, part, Hashed, Shows}
 use Rattle.shard.specs.Carries.{Carries}
 use Rattle.shard.specs.Steps.{SameTerms, FollowsRings, context_of}
-use Rattle.shard.specs.Finds.{Agrees}
-use Rattle.shard.specs.Inserts.{Lies, Enters, Expels, Resettles}
+use Rattle.shard.specs.Inserts.{Enters, Expels, Resettles}
 use Rattle.shard.specs.Arrivals.{as_spot, hooked_by, Stages, Ousts, TurnsAway, admitted, Replaces, Revives, Supplants}
 use Rattle.shard.proofs.Views.{hash_kept}
 use Rattle.shard.proofs.Carrying.{out_of_ghosts, out_of_waits, written_over}

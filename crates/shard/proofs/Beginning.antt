@@ -1,16 +1,15 @@
 -- A fresh shard is the model's fresh state.
-use Rattle.std.proofs.Common.{◌≡◌, ℕ, ◌≤◌, min, true, List, [], length, sym, refl, ◌∙◌, subst}
+use Rattle.std.proofs.Common.{◌≡◌, ℕ, ◌≤◌, min, true, [], length, sym, refl, ◌∙◌, subst}
 use native.Mathlib.Nat.{min_comm}
 use Rattle.interface.specs.Meaning.{Keying}
 use Rattle.settings.specs.Standing.{limits}
 use Rattle.settings.specs.declared.options.Settings.{Settings}
 use Rattle.model.specs.Calls.{fresh as fresh_state}
-use Rattle.model.specs.Entries as model
 use Rattle.model.proofs.Runs.{laws_of_states}
 use Rattle.ring_slab.specs.Calls.{slots_of, Fresh}
 use Rattle.ring_slab.specs.declared.linked_slab.LinkedSlab.{LinkedSlab}
 use Rattle.shard.specs.declared.entry.Entry.{Entry}
-use Rattle.shard.specs.Layout.{entry_at, hash_at}
+use Rattle.shard.specs.Layout.{hash_at}
 use Rattle.shard.specs.Shows.{Hashed, Shows}
 use Rattle.shard.specs.Depicts.{Depicts}
 use Rattle.shard.proofs.Moves.{fresh_shard, fresh_places, fresh_stands, all_none}

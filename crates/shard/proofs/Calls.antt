@@ -8,7 +8,6 @@ use Rattle.model.specs.Calls as calls
 use Rattle.model.specs.Calls.{State, Call, Answer, Outcome, closed, outside_edit, eventless, outcome, step}
 use Rattle.model.specs.Standing.{Standing}
 use Rattle.model.proofs.Lookup.{step_outside}
-use Rattle.model.proofs.Tallies.{Lawful}
 use Rattle.model.proofs.Runs.{laws_of_states}
 use Rattle.shard.specs.declared.cache_shard.CacheShard.{CacheShard}
 use Rattle.shard.specs.Layout.{Places}

@@ -1,21 +1,20 @@
 -- What is in hand: an entry is taken out of its list, changed, put back where it belongs, or let go.
-use Rattle.std.proofs.Common.{◌≡◌, ℕ, suc, ◌+◌, ◌<◌, ◌≤◌, Bool, true, false, cond, eqb, ◌⊎◌, List, [], ◌∷◌, ◌++◌, length, get_or, set, Some, None, Option, sym, refl, ap, ◌∙◌, subst, inl, inr, ⊎_elim, arith}
+use Rattle.std.proofs.Common.{◌≡◌, ℕ, ◌+◌, ◌<◌, ◌≤◌, Bool, true, false, cond, eqb, List, [], ◌∷◌, ◌++◌, length, set, Some, None, sym, refl, ap, ◌∙◌, subst, inl, arith}
 use Rattle.interface.specs.Meaning.{Keying}
-use Rattle.model.specs.Lists.{mapped, when}
+use Rattle.model.specs.Lists.{mapped}
 use Rattle.model.specs.Entries as model
-use Rattle.ring_slab.specs.Places.{count, one, look, head_of, front, rest}
+use Rattle.ring_slab.specs.Places.{count, one, look}
 use Rattle.ring_slab.specs.Slots.{items, hashes}
-use Rattle.ring_slab.proofs.Counts.{one_at, count_append, count_less, count_head, split_at}
+use Rattle.ring_slab.proofs.Counts.{one_at, count_append, count_less, split_at}
 use Rattle.shard.specs.declared.entry.Entry.{Entry}
-use Rattle.shard.specs.declared.entry.Entry.TheVariants as E
 use Rattle.shard.specs.declared.ring.RingName.{RingName}
 use Rattle.shard.specs.declared.ring.RingName.TheVariants.{Hot, Cold, Ghosts}
 use Rattle.shard.specs.declared.cache_shard.CacheShard.{CacheShard}
 use Rattle.shard.specs.Tallies.{by_state}
 use Rattle.shard.specs.Layout.{Places, ring_at, ringed, loosed, freed, kind_of, in_ring, off_rings, slots, entry_at, hash_at, Stands, SameEntries}
-use Rattle.shard.specs.Moves.{Appends, TurnsOut, Deletes, Occupies, Overwrites, Releases}
-use Rattle.shard.specs.Shows.{plain, waiting, part, seen, Shown, Hashed, Keyed, Shows}
-use Rattle.shard.specs.Carries.{Contents, Carries}
+use Rattle.shard.specs.Moves.{Appends, TurnsOut, Deletes, Overwrites, Releases}
+use Rattle.shard.specs.Shows.{plain, waiting, part, seen, Shown, Hashed, Shows}
+use Rattle.shard.specs.Carries.{Carries}
 use Rattle.shard.specs.Finds.{places_of}
 use Rattle.shard.proofs.Views.{contents_of, shows_from, contents_kept, contents_set, with_hot, with_cold, with_ghosts, with_free, hot_push, cold_push, off_push, joins, mapped_append, seen_off, seen_set, entry_kept, entry_set, keyed_set}
 use Rattle.shard.proofs.Standing.{lay_down, pick_up, places_most, places_below, hand_below}

@@ -1,5 +1,5 @@
 -- What was found is kept under the key's hash, and whether a slot is lacking.
-use Rattle.std.proofs.Common.{◌≡◌, ℕ, Bool, true, false, cond, eqb, leb, List, [], ◌∷◌, ◌++◌, length, Some, sym, refl, ap, ◌∙◌, subst, arith}
+use Rattle.std.proofs.Common.{◌≡◌, ℕ, true, false, eqb, leb, List, [], ◌∷◌, ◌++◌, length, Some, sym, refl, ap, ◌∙◌, subst}
 use Rattle.std.proofs.lemmas.Bool.{eqb-true}
 use Rattle.interface.specs.Meaning.{Keying}
 use Rattle.model.specs.Lists.{Pick, nothing, here, pick, mapped}
@@ -13,9 +13,8 @@ use Rattle.shard.specs.declared.strategy.InsertStrategy.TheVariants as I
 use Rattle.shard.specs.declared.found.Found.{Found}
 use Rattle.shard.specs.declared.found.Found.TheVariants as F
 use Rattle.shard.specs.declared.cache_shard.CacheShard.{CacheShard}
-use Rattle.shard.specs.declared.entry.Entry.{Entry}
 use Rattle.shard.specs.Layout.{Places, slots, hash_at}
-use Rattle.shard.specs.Shows.{plain, waiting, Hashed, Shows}
+use Rattle.shard.specs.Shows.{Hashed, Shows}
 use Rattle.shard.specs.Finds.{Agrees, AtItsPlace}
 use Rattle.shard.specs.Replies.{strategy_of}
 use Rattle.shard.specs.Arrivals.{Coded, no_slot}

@@ -5,7 +5,6 @@ use Rattle.interface.specs.Meaning.{Keying, Life}
 use Rattle.interface.specs.declared.refusal.Refusal.TheVariants.{NoFreeSlot}
 use Rattle.settings.specs.Rules.{Limits}
 use Rattle.settings.specs.Standing.{limits}
-use Rattle.model.specs.Lists.{when}
 use Rattle.model.specs.Entries as model
 use Rattle.model.specs.Calls as calls
 use Rattle.model.specs.Calls.{State, Answer, Outcome, Strategy, context, outside_edit, eventless, outcome, step}

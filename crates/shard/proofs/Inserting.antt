@@ -1,9 +1,9 @@
 -- Residents that come, go and change.
-use Rattle.std.proofs.Common.{◌≡◌, ℕ, suc, ◌+◌, ◌<◌, ◌≤◌, Bool, true, false, cond, eqb, ◌⊎◌, List, [], ◌∷◌, ◌++◌, length, get_or, set, Some, None, Option, sym, refl, ap, ◌∙◌, subst, inl, inr, ⊎_elim, arith, eq-eqb, ne_eqb}
+use Rattle.std.proofs.Common.{◌≡◌, ℕ, ◌≤◌, Bool, true, false, cond, eqb, ◌⊎◌, List, [], ◌∷◌, ◌++◌, length, get_or, set, Some, None, sym, refl, ap, ◌∙◌, subst, inl, inr, ⊎_elim, arith}
 use Rattle.interface.specs.Meaning.{Keying}
-use Rattle.model.specs.Lists.{mapped, when}
+use Rattle.model.specs.Lists.{when}
 use Rattle.model.specs.Entries as model
-use Rattle.ring_slab.specs.Places.{count, one}
+use Rattle.ring_slab.specs.Places.{count}
 use Rattle.ring_slab.specs.Slots.{items, hashes}
 use Rattle.ring_slab.proofs.Counts.{one_at, count_less, split_at}
 use Rattle.shard.specs.declared.entry.Resident.{Resident}
@@ -17,12 +17,11 @@ use Rattle.shard.specs.declared.cache_shard.CacheShard.{CacheShard}
 use Rattle.shard.specs.Tallies.{by_state}
 use Rattle.shard.specs.Layout.{Places, ringed, loosed, ring_at, kind_of, Kind, in_ring, off_rings, slots, entry_at, hash_at, ring_places, Stands, Sound, SameEntries}
 use Rattle.shard.specs.Moves.{Appends, TurnsOut, Deletes, Overwrites, Releases}
-use Rattle.shard.specs.Shows.{plain, part, Shown, Shows}
-use Rattle.shard.specs.Carries.{Contents, Carries}
+use Rattle.shard.specs.Shows.{plain, part, Shows}
 use Rattle.shard.specs.Finds.{places_of}
 use Rattle.shard.specs.Steps.{SameTerms}
 use Rattle.std.proofs.lemmas.List.{length-map}
-use Rattle.shard.specs.Inserts.{ring_for, Lies, TakesOut, Enters, Expels, Resettles}
+use Rattle.shard.specs.Inserts.{ring_for, TakesOut, Enters, Expels, Resettles}
 use Rattle.shard.proofs.Standing.{loose_by_kind, ring_by_kind, pick_up, stands_sound, lay_down, kind_in_ring, entry_used}
 use Rattle.shard.proofs.Carrying.{ring_name, let_go, laid_off, put_back, out_of_hot, out_of_cold, out_of_off, turned_hot, turned_cold, written_over, changed_in}
 

@@ -4,7 +4,7 @@ use Rattle.std.proofs.lemmas.List.{append-nil, append_assoc, length-append, leng
 use Rattle.std.proofs.lemmas.Bool.{cases_eq, ltb-false, or_parts, or_left, or_right, or_from, lt-ltb, le-ltb, not-false}
 use Rattle.model.specs.Lists.{sum_of, every, mapped}
 use Rattle.ring_slab.specs.Places.{look, count}
-use Rattle.ring_slab.specs.Slots.{buckets, chains, nexts, prevs, hashes, items, item_at}
+use Rattle.ring_slab.specs.Slots.{nexts, prevs, items, item_at}
 use Rattle.ring_slab.specs.Rings.{Cycle, Ring, walk}
 use Rattle.ring_slab.specs.Holding.{SameLinks}
 use Rattle.ring_slab.specs.Calls.{slots_of}

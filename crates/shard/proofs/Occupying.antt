@@ -1,15 +1,14 @@
 -- A free slot is filled, and how many slots are used.
-use Rattle.std.proofs.Common.{◌≡◌, ℕ, suc, ◌+◌, ◌<◌, ◌≤◌, Bool, true, false, cond, leb, List, [], ◌∷◌, ◌++◌, length, get_or, set, is_some, Some, None, Option, sym, refl, ap, ◌∙◌, subst, ⊎_elim, arith}
+use Rattle.std.proofs.Common.{◌≡◌, ℕ, suc, ◌+◌, ◌<◌, ◌≤◌, Bool, true, false, cond, leb, List, [], ◌∷◌, length, get_or, set, is_some, Some, None, sym, refl, ap, ◌∙◌, subst, ⊎_elim, arith}
 use Rattle.std.proofs.lemmas.List.{length-map, get_or-set_same, get_or-set_other}
 use Rattle.std.proofs.lemmas.Bool.{cases_eq, both_ways}
 use Rattle.interface.specs.Meaning.{Keying, Life}
 use Rattle.settings.specs.Standing.{limits}
-use Rattle.model.specs.Lists.{mapped}
 use Rattle.model.specs.Entries as model
 use Rattle.model.specs.Hands.{shrink}
 use Rattle.model.specs.Calls as calls
 use Rattle.model.specs.Calls.{State}
-use Rattle.ring_slab.specs.Places.{count, look, head_of, front, rest}
+use Rattle.ring_slab.specs.Places.{count, head_of, front, rest}
 use Rattle.ring_slab.specs.Slots.{items, hashes}
 use Rattle.ring_slab.proofs.Counts.{one_at}
 use Rattle.shard.specs.declared.entry.Resident.{Resident}
@@ -24,7 +23,7 @@ use Rattle.shard.specs.Shows.{plain, part, Hashed, Keyed, Shows}
 use Rattle.shard.specs.Carries.{Carries}
 use Rattle.shard.specs.Steps.{SameTerms, NoMoreUsed, FollowsRings, context_of}
 use Rattle.shard.specs.Inserts.{Enters}
-use Rattle.shard.specs.Arrivals.{Stages, BringsIn}
+use Rattle.shard.specs.Arrivals.{BringsIn}
 use Rattle.shard.proofs.Counts.{front_some, count_front}
 use Rattle.shard.proofs.Standing.{places_most, vacant_below}
 use Rattle.shard.proofs.Views.{mapped_same, entry_set, entry_other, seen_off}

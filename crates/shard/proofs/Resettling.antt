@@ -1,7 +1,5 @@
 -- Entries that are written over others, in their place or in hand, and what becomes of ghosts and placeholders.
-use Rattle.std.proofs.Common.{◌≡◌, ℕ, suc, ◌+◌, ◌<◌, ◌≤◌, min, Bool, true, false, cond, eqb, ◌⊎◌, List, [], ◌∷◌, ◌++◌, length, get_or, set, Some, None, Option, sym, refl, ap, ◌∙◌, subst, inl, inr, arith}
-use Rattle.interface.specs.Meaning.{Keying}
-use Rattle.model.specs.Lists.{mapped}
+use Rattle.std.proofs.Common.{◌≡◌, ℕ, suc, ◌≤◌, min, cond, eqb, List, [], ◌∷◌, set, Some, None, sym, refl, ap, ◌∙◌, subst, inl, inr}
 use Rattle.model.specs.Entries as model
 use Rattle.ring_slab.specs.Places.{count}
 use Rattle.ring_slab.specs.Slots.{items, hashes}
@@ -14,9 +12,9 @@ use Rattle.shard.specs.declared.entry.ResidentState.{ResidentState}
 use Rattle.shard.specs.declared.ring.RingName.TheVariants.{Hot, Cold, Ghosts}
 use Rattle.shard.specs.declared.cache_shard.CacheShard.{CacheShard}
 use Rattle.shard.specs.Tallies.{by_state}
-use Rattle.shard.specs.Layout.{Places, kind_of, in_ring, off_rings, slots, entry_at, hash_at, ring_places, places, Sound, SameEntries}
+use Rattle.shard.specs.Layout.{kind_of, in_ring, off_rings, slots, entry_at, hash_at, ring_places, places, Sound, SameEntries}
 use Rattle.shard.specs.Moves.{Overwrites, Deletes, Releases}
-use Rattle.shard.specs.Shows.{plain, Hashed, Shows}
+use Rattle.shard.specs.Shows.{plain, Hashed}
 use Rattle.shard.specs.Steps.{SameTerms}
 use Rattle.shard.specs.Inserts.{Reads, DropsGhost, DropsPlaceholder}
 use Rattle.shard.proofs.Standing.{stands_sound, entry_used, loose_by_kind, ring_by_kind, pick_up}

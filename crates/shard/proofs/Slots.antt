@@ -3,7 +3,7 @@ use Rattle.std.proofs.Common.{◌≡◌, ℕ, ◌+◌, ◌<◌, ◌≤◌, List,
 use Rattle.std.proofs.lemmas.List.{length-append}
 use Rattle.std.proofs.lemmas.Bool.{cases_lt}
 use Rattle.interface.specs.Meaning.{Keying}
-use Rattle.model.specs.Lists.{sum_of, mapped}
+use Rattle.model.specs.Lists.{sum_of}
 use Rattle.model.specs.Entries as model
 use Rattle.ring_slab.specs.Places.{count, upto}
 use Rattle.ring_slab.proofs.Counts.{count_append}

@@ -6,7 +6,7 @@ use Rattle.model.specs.Lists.{mapped, every, Pick, nothing, here}
 use Rattle.model.specs.Entries as model
 use Rattle.model.specs.Hands.{Context, pinned, hot_stop}
 use Rattle.ring_slab.specs.Places.{look, count}
-use Rattle.ring_slab.specs.Slots.{nexts, items, hashes}
+use Rattle.ring_slab.specs.Slots.{nexts, items}
 use Rattle.ring_slab.specs.Rings.{Ring, ring_from, walk}
 use Rattle.ring_slab.specs.declared.linked_slab.LinkedSlab.{LinkedSlab}
 use Rattle.ring_slab.proofs.Counts.{split_at}

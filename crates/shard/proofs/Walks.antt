@@ -18,7 +18,7 @@ use Rattle.shard.specs.declared.lap.Lap.{Lap}
 use Rattle.shard.specs.declared.lap.Lap.TheVariants as L
 use Rattle.shard.specs.Shows.{plain}
 use Rattle.shard.specs.Hands.{worn, held, passes, halts, along, Lie, Worn, OnlyReads, Lapped, Stopped, WalksHot, Halted}
-use Rattle.shard.proofs.Views.{every_mapped, parts, Between, between, joins}
+use Rattle.shard.proofs.Views.{every_mapped, Between, between, joins}
 use Rattle.shard.proofs.Laps.{and_false, links_refl, links_trans, worn_along, kept_along, worn_only}
 
 every_off : {X : Type 0} (f : X → Bool) (a : List X) (r : X) (b : List X) → f r ≡ false → every f (a ++ r ∷ b) ≡ false

@@ -1,11 +1,10 @@
 -- A record that may come in, by what its key finds.
-use Rattle.std.proofs.Common.{◌≡◌, ℕ, ◌≤◌, Bool, true, false, cond, List, [], ◌∷◌, ◌++◌, length, Some, None, sym, refl, ap, ◌∙◌, subst, arith, leb-false}
+use Rattle.std.proofs.Common.{◌≡◌, ℕ, ◌≤◌, Bool, true, false, cond, ◌∷◌, length, Some, sym, refl, ap, ◌∙◌, subst, arith, leb-false}
 use Rattle.interface.specs.Meaning.{Keying, Life}
 use Rattle.interface.specs.declared.refusal.Refusal.TheVariants.{NotResident}
 use Rattle.model.specs.Entries as model
 use Rattle.model.specs.Calls as calls
 use Rattle.model.specs.Calls.{State, Strategy}
-use Rattle.model.specs.Requests.{state_after}
 use Rattle.shard.specs.declared.entry.Resident.{Resident}
 use Rattle.shard.specs.declared.entry.Placeholder.{Placeholder}
 use Rattle.shard.specs.declared.entry.Entry.{Entry}
@@ -15,8 +14,8 @@ use Rattle.shard.specs.declared.strategy.InsertStrategy.TheVariants as I
 use Rattle.shard.specs.declared.found.Found.{Found}
 use Rattle.shard.specs.declared.found.Found.TheVariants as F
 use Rattle.shard.specs.declared.cache_shard.CacheShard.{CacheShard}
-use Rattle.shard.specs.Layout.{Places, slots, entry_at, hash_at}
-use Rattle.shard.specs.Shows.{plain, waiting, Hashed, Shows}
+use Rattle.shard.specs.Layout.{slots, entry_at, hash_at}
+use Rattle.shard.specs.Shows.{Hashed}
 use Rattle.shard.specs.Arrivals.{Room, no_slot, Stages, Replaces, Revives, Supplants, BringsIn, LetsIn}
 use Rattle.shard.proofs.Calls.{same_content}
 use Rattle.shard.proofs.Accesses.{entry_code}

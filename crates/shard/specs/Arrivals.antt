@@ -1,11 +1,10 @@
 -- Records that come in, against the model: what each part of an insert comes to, from every state of the model that the shard
 -- shows in the middle of a call.
-use Rattle.std.specs.Prelude.{◌≡◌, ℕ, suc, ◌+◌, ◌<◌, Bool, true, false, not, ◌&&◌, List, [], ◌∷◌, ◌++◌, length, Some, nat_le, nat_lt}
+use Rattle.std.specs.Prelude.{◌≡◌, ℕ, suc, ◌<◌, Bool, true, false, not, ◌&&◌, List, ◌∷◌, ◌++◌, length, Some, nat_le, nat_lt}
 use Rattle.interface.specs.Meaning.{Keying, Life}
 use Rattle.settings.specs.Standing.{limits}
 use Rattle.model.specs.Lists.{mapped, when}
 use Rattle.model.specs.Entries as model
-use Rattle.model.specs.Hands.{Context}
 use Rattle.model.specs.Calls as calls
 use Rattle.model.specs.Calls.{State, Answer, Strategy, closed}
 use Rattle.model.specs.Requests.{state_after}

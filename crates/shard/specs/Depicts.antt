@@ -1,5 +1,5 @@
 -- The shard as a model state, and what a call of it has to do with the model's call.
-use Rattle.std.specs.Prelude.{◌≡◌, ℕ, suc, List, [], length}
+use Rattle.std.specs.Prelude.{◌≡◌, ℕ, suc, [], length}
 use Rattle.interface.specs.Meaning.{Keying, Life}
 use Rattle.settings.specs.Standing.{limits}
 use Rattle.model.specs.Calls.{State, Call, Answer, closed, step}

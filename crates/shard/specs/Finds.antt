@@ -1,16 +1,15 @@
 -- What a search of the shard finds, against the model's.
-use Rattle.std.specs.Prelude.{◌≡◌, ℕ, ◌+◌, ◌≤◌, Bool, true, false, List, [], ◌∷◌, ◌++◌, Some, None, Option}
+use Rattle.std.specs.Prelude.{◌≡◌, ℕ, ◌≤◌, List, ◌∷◌, ◌++◌, Some}
 use Rattle.interface.specs.Meaning.{Keying}
-use Rattle.model.specs.Lists.{mapped, sum_of}
+use Rattle.model.specs.Lists.{mapped}
 use Rattle.model.specs.Entries as model
 use Rattle.model.specs.Calls as calls
 use Rattle.model.specs.Standing.{matches}
-use Rattle.shard.specs.declared.entry.Entry.{Entry}
 use Rattle.shard.specs.declared.entry.Entry.TheVariants.{Ghost}
 use Rattle.shard.specs.declared.cache_shard.CacheShard.{CacheShard}
 use Rattle.shard.specs.declared.found.Found.{Found}
 use Rattle.shard.specs.declared.found.Found.TheVariants as F
-use Rattle.shard.specs.Layout.{Places, entry_at, hash_at, Stands}
+use Rattle.shard.specs.Layout.{Places, entry_at, hash_at}
 use Rattle.shard.specs.Shows.{plain, waiting, seen, Shown, Shows}
 
 -- the places of one of the model's three lists of residents

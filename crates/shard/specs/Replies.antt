@@ -1,5 +1,5 @@
 -- The answers of the program's calls as the model's.
-use Rattle.std.specs.Prelude.{Bool, true, false, cond, Some, None, Ok, Err, Option, Result}
+use Rattle.std.specs.Prelude.{cond, Some, None, Ok, Err, Option, Result}
 use Rattle.model.specs.Calls as calls
 use Rattle.shard.specs.declared.strategy.InsertStrategy.{InsertStrategy}
 use Rattle.shard.specs.declared.strategy.InsertStrategy.TheVariants.{Insert, Replace}

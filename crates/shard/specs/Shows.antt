@@ -1,20 +1,16 @@
 -- What a shard shows of the model: the entries at its places are the model's residents, placeholders and ghosts, with the
 -- numbers of the ledger forgotten.
-use Rattle.std.specs.Prelude.{◌≡◌, ℕ, suc, ◌+◌, ◌≤◌, Bool, true, false, List, [], ◌∷◌, ◌++◌, length, Some, None, Option}
-use Rattle.interface.specs.Meaning.{Keying, Life}
-use Rattle.settings.specs.Standing.{limits}
+use Rattle.std.specs.Prelude.{◌≡◌, ℕ, ◌+◌, Bool, true, false, List, [], Some, None, Option}
+use Rattle.interface.specs.Meaning.{Keying}
 use Rattle.model.specs.Lists.{mapped}
 use Rattle.model.specs.Entries as model
-use Rattle.model.specs.Hands.{Context}
-use Rattle.model.specs.Requests.{state_after, policy}
-use Rattle.model.specs.Calls as calls
 use Rattle.ring_slab.specs.Places.{count}
 use Rattle.shard.specs.declared.entry.Entry.{Entry}
 use Rattle.shard.specs.declared.entry.Entry.TheVariants as E
 use Rattle.shard.specs.declared.entry.ResidentState.{ResidentState}
 use Rattle.shard.specs.declared.entry.ResidentState.TheVariants as S
 use Rattle.shard.specs.declared.cache_shard.CacheShard.{CacheShard}
-use Rattle.shard.specs.Layout.{Places, slots, entry_at, hash_at, Stands}
+use Rattle.shard.specs.Layout.{Places, entry_at, hash_at, Stands}
 
 abbrev pub part : Bool → ResidentState
 part true = S.Hot

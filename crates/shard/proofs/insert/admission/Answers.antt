@@ -1,5 +1,5 @@
 -- Which way the record goes.
-use Rattle.std.proofs.Common.{◌≡◌, sym, ◌∙◌}
+use Rattle.std.proofs.Common.{sym, ◌∙◌}
 use Rattle.shard.proofs.Arriving.{way_light, way_pinned, way_trimmed, way_heavy}
 use Rattle.shard.proofs.insert.admission.Goals as goal
 

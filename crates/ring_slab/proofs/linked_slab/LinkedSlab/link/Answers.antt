@@ -1,6 +1,5 @@
 use Rattle.std.proofs.Common.{◌≡◌, ℕ, ◌+◌, List, [], ◌∷◌, ◌++◌, length, Some, unwrap_or, refl, ap, ◌∙◌, arith}
 use Rattle.ring_slab.specs.Places.{count, head_of}
-use Rattle.ring_slab.specs.Slots.{buckets, chains, hashes, items}
 use Rattle.ring_slab.proofs.Counts.{one_at, count_append, count_less, count_in_append}
 use Rattle.ring_slab.proofs.Holding.{at_most, rings_split}
 use Rattle.ring_slab.proofs.Changes.{relinked}

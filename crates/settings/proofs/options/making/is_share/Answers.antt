@@ -1,5 +1,5 @@
 -- The bits of 0.0 and of 1.0 are those numbers.
-use Rattle.std.proofs.Common.{◌≡◌, false, ◌&&◌, pos, sym, refl, ap, ◌∙◌}
+use Rattle.std.proofs.Common.{false, ◌&&◌, pos, sym, ap, ◌∙◌}
 use lib.Ieee.{of_bits, le, fin}
 use Rattle.settings.proofs.options.making.is_share.Goals as goal
 

@@ -1,7 +1,6 @@
 -- The resident is written over with a read more.
-use Rattle.std.proofs.Common.{◌≡◌, refl, ap}
+use Rattle.std.proofs.Common.{refl, ap}
 use Rattle.shard.specs.declared.entry.Resident.{Resident}
-use Rattle.shard.specs.declared.entry.Entry.{Entry}
 use Rattle.shard.specs.declared.entry.Entry.TheVariants as E
 use Rattle.shard.proofs.Standing.{size_bound, entry_used}
 use Rattle.shard.proofs.Resettling.{stays_sound, reads_more}

@@ -1,5 +1,5 @@
 -- A weightless resident is laid down; any other is appended to the ring of its state.
-use Rattle.std.proofs.Common.{◌≡◌, sym, ap, ◌∙◌, subst, eq-eqb, ne_eqb}
+use Rattle.std.proofs.Common.{sym, ap, ◌∙◌, subst, eq-eqb, ne_eqb}
 use Rattle.shard.specs.Layout.{kind_of, in_ring}
 use Rattle.shard.specs.Moves.{Appends}
 use Rattle.shard.proofs.Inserting.{enters_ring, enters_none, down_sound, kind_ring, same_entries}

@@ -1,5 +1,5 @@
 -- Hot where there is room.
-use Rattle.std.proofs.Common.{◌≡◌, ℕ, ◌+◌, leb, ap, ◌∙◌, arith}
+use Rattle.std.proofs.Common.{ℕ, ◌+◌, leb, ap, ◌∙◌, arith}
 use Rattle.shard.proofs.Tallies.{tally_bounded}
 use Rattle.shard.proofs.Standing.{size_bound}
 use Rattle.shard.proofs.Occupying.{hot_part, other_part}

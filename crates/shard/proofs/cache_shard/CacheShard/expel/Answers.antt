@@ -1,5 +1,4 @@
 -- Taken out, and freed.
-use Rattle.std.proofs.Common.{◌∙◌}
 use Rattle.shard.proofs.Inserting.{expels, terms_after}
 use Rattle.shard.proofs.cache_shard.CacheShard.expel.Goals as goal
 

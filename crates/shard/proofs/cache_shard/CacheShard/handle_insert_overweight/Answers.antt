@@ -1,5 +1,5 @@
 -- The resident of its key is gone; then the record goes, by the strategy.
-use Rattle.std.proofs.Common.{◌≡◌, ap}
+use Rattle.std.proofs.Common.{ap}
 use Rattle.shard.specs.Replies.{strategy_of}
 use Rattle.shard.proofs.Arriving.{turns_cold, turns_back}
 use Rattle.shard.proofs.cache_shard.CacheShard.handle_insert_overweight.Goals as goal

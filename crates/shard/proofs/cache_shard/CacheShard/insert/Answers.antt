@@ -1,5 +1,5 @@
 -- No slot, admitted, or turned away.
-use Rattle.std.proofs.Common.{◌≡◌, sym, ◌∙◌}
+use Rattle.std.proofs.Common.{sym, ◌∙◌}
 use Rattle.shard.specs.Replies.{taken}
 use Rattle.shard.proofs.Calls.{keeps}
 use Rattle.shard.proofs.Inserted.{weight_is, insert_refused, insert_taken, insert_turned}

@@ -1,5 +1,5 @@
 -- There is room and a free slot; the record enters.
-use Rattle.std.proofs.Common.{◌≡◌, ℕ, ◌+◌, Bool, leb, sym, refl, ap, ◌∙◌, subst}
+use Rattle.std.proofs.Common.{ℕ, ◌+◌, leb, ap, ◌∙◌, subst}
 use Rattle.settings.specs.Standing.{limits}
 use Rattle.model.specs.Hands.{shrink}
 use Rattle.shard.specs.declared.entry.Resident.{Resident}

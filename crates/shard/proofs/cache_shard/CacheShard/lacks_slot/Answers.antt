@@ -1,7 +1,6 @@
 -- Only a plain insert of a key that is not known needs one.
-use Rattle.std.proofs.Common.{◌≡◌, ℕ, Bool, false, leb, length, sym, refl, ap, ◌∙◌}
+use Rattle.std.proofs.Common.{ℕ, leb, length, sym, ap, ◌∙◌}
 use Rattle.shard.specs.Layout.{slots}
-use Rattle.shard.specs.declared.found.Found.{Found}
 use Rattle.shard.specs.declared.found.Found.TheVariants as F
 use Rattle.shard.specs.declared.strategy.InsertStrategy.{InsertStrategy}
 use Rattle.shard.specs.declared.strategy.InsertStrategy.TheVariants as I

@@ -1,5 +1,5 @@
 -- By the strategy.
-use Rattle.std.proofs.Common.{◌≡◌, Bool, sym, ap, ◌∙◌, subst}
+use Rattle.std.proofs.Common.{sym, ap, ◌∙◌, subst}
 use Rattle.model.specs.Calls as calls
 use Rattle.model.specs.Calls.{Strategy}
 use Rattle.shard.specs.declared.strategy.InsertStrategy.{InsertStrategy}

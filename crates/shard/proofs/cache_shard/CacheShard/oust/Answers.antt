@@ -1,5 +1,5 @@
 -- Only a resident goes.
-use Rattle.std.proofs.Common.{◌≡◌, Some, sym, refl, ap, ◌∙◌, subst, arith}
+use Rattle.std.proofs.Common.{Some, sym, ap, ◌∙◌, subst, arith}
 use Rattle.shard.specs.declared.found.Found.{Found}
 use Rattle.shard.specs.Finds.{AtItsPlace}
 use Rattle.shard.specs.Arrivals.{Ousts}

@@ -1,5 +1,5 @@
 -- What the key finds decides; nothing changes.
-use Rattle.std.proofs.Common.{◌≡◌, Some, None, refl, ap, ◌∙◌, arith}
+use Rattle.std.proofs.Common.{ap, arith}
 use Rattle.model.specs.Calls as calls
 use Rattle.shard.specs.declared.found.Found.TheVariants as F
 use Rattle.shard.proofs.Calls.{keeps}

@@ -1,5 +1,5 @@
 -- What the key finds is taken out.
-use Rattle.std.proofs.Common.{◌≡◌, Some, None, refl, ap, ◌∙◌, arith}
+use Rattle.std.proofs.Common.{Some, ap, ◌∙◌}
 use Rattle.model.specs.Calls as calls
 use Rattle.shard.specs.declared.found.Found.TheVariants as F
 use Rattle.shard.proofs.Calls.{keeps}

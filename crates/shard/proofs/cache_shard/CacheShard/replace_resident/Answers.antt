@@ -1,6 +1,5 @@
 -- The record is replaced, the old one hooked, and the cache shrinks.
-use Rattle.std.proofs.Common.{◌≡◌, ℕ, sym, refl, ap, ◌∙◌}
-use Rattle.shard.specs.declared.entry.Resident.{Resident}
+use Rattle.std.proofs.Common.{ℕ, refl, ap, ◌∙◌}
 use Rattle.shard.specs.declared.entry.Entry.{Entry}
 use Rattle.shard.specs.declared.entry.Entry.TheVariants as E
 use Rattle.shard.proofs.Resettling.{terms_on}

@@ -1,5 +1,5 @@
 -- Where the weight stays 0 or more, the entry stays in its place; else it enters or leaves its ring.
-use Rattle.std.proofs.Common.{◌≡◌, ◌≤◌, [], ◌∷◌, sym, refl, ap, ◌∙◌, subst, eq-eqb, ne_eqb}
+use Rattle.std.proofs.Common.{◌≤◌, [], sym, ap, ◌∙◌, subst, eq-eqb, ne_eqb}
 use Rattle.ring_slab.specs.Places.{count}
 use Rattle.ring_slab.proofs.Counts.{count_head}
 use Rattle.shard.specs.declared.entry.Entry.TheVariants as E

@@ -1,8 +1,7 @@
 -- The ghost leaves its ring, a resident is written over it and enters, and the cache shrinks.
-use Rattle.std.proofs.Common.{◌≡◌, ℕ, [], ◌∷◌, sym, refl, ap, ◌∙◌}
+use Rattle.std.proofs.Common.{ℕ, [], ap}
 use Rattle.ring_slab.proofs.Counts.{count_head}
 use Rattle.shard.specs.declared.entry.Resident.{Resident}
-use Rattle.shard.specs.declared.entry.Entry.{Entry}
 use Rattle.shard.specs.declared.entry.Entry.TheVariants as E
 use Rattle.shard.specs.declared.entry.ResidentState.TheVariants as S
 use Rattle.shard.proofs.Standing.{size_bound, hand_below}

@@ -1,10 +1,10 @@
 -- Only a resident is replaced.
-use Rattle.std.proofs.Common.{◌≡◌, Bool, cond, Some, sym, refl, ap, ◌∙◌, subst, arith}
+use Rattle.std.proofs.Common.{cond, Some, sym, ap, ◌∙◌, subst, arith}
 use Rattle.interface.specs.declared.refusal.Refusal.TheVariants.{NotResident}
 use Rattle.model.specs.Calls as calls
 use Rattle.shard.specs.declared.found.Found.{Found}
 use Rattle.shard.specs.Finds.{AtItsPlace}
-use Rattle.shard.specs.Arrivals.{Room, LetsIn}
+use Rattle.shard.specs.Arrivals.{LetsIn}
 use Rattle.shard.proofs.Resettling.{same_terms}
 use Rattle.shard.proofs.Accesses.{entry_code}
 use Rattle.shard.proofs.Welcoming.{welcomes_resident, refuses_none, refuses_other}

@@ -1,7 +1,6 @@
 -- A resident is written over the placeholder and enters, and the cache shrinks.
-use Rattle.std.proofs.Common.{◌≡◌, ℕ, [], ◌∷◌, sym, refl, ap, ◌∙◌}
+use Rattle.std.proofs.Common.{ℕ, ap}
 use Rattle.shard.specs.declared.entry.Resident.{Resident}
-use Rattle.shard.specs.declared.entry.Entry.{Entry}
 use Rattle.shard.specs.declared.entry.Entry.TheVariants as E
 use Rattle.shard.proofs.Standing.{size_bound, entry_used}
 use Rattle.shard.proofs.Resettling.{placeholder_up, held_over, entry_new, terms_before, terms_on}

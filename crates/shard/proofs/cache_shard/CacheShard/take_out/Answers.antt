@@ -1,5 +1,5 @@
 -- A weightless resident is taken up where it lies; any other leaves its ring.
-use Rattle.std.proofs.Common.{◌≡◌, ◌≤◌, sym, refl, ap, subst, eq-eqb, ne_eqb}
+use Rattle.std.proofs.Common.{◌≤◌, sym, subst, eq-eqb, ne_eqb}
 use Rattle.ring_slab.specs.Places.{count}
 use Rattle.shard.specs.Layout.{ring_places}
 use Rattle.shard.specs.Moves.{Deletes}

@@ -1,12 +1,9 @@
 -- What the key finds decides.
-use Rattle.std.proofs.Common.{◌≡◌, Bool, cond, Some, sym, refl, ap, ◌∙◌, subst, arith}
-use Rattle.interface.specs.declared.refusal.Refusal.TheVariants.{NotResident}
+use Rattle.std.proofs.Common.{Some, sym, ap, ◌∙◌, subst}
 use Rattle.model.specs.Calls as calls
 use Rattle.shard.specs.declared.found.Found.{Found}
 use Rattle.shard.specs.Finds.{AtItsPlace}
 use Rattle.shard.specs.Arrivals.{Room, LetsIn}
-use Rattle.shard.proofs.Resettling.{same_terms}
-use Rattle.shard.proofs.Accesses.{entry_code}
 use Rattle.shard.proofs.Welcoming.{welcomes_new, welcomes_resident, welcomes_placeholder, welcomes_ghost}
 use Rattle.shard.proofs.cache_shard.CacheShard.welcome.Goals as goal
 
