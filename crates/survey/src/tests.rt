@@ -42,7 +42,7 @@ fn the_range_of_a_text(rt: HostRuntime) -> Result<(), Fail> {
     let one = Code::new(b"1").ok_or(())?;
     let eight = Code::new(b"12345678").ok_or(())?;
     assert_eq!(rt; one.len(), 1);
-    assert_eq!(rt; eight.as_bytes(), b"12345678");
+    assert_eq!(rt; eight.as_bytes(), b"12345678".as_slice());
     assert!(rt; !one.equal(&eight));
     Ok(())
 }
