@@ -19,7 +19,7 @@ TOKEN = re.compile(r"[^\s(){}\[\].,;|λ=\"`]+")
 # what stays: in specs/ and proofs/ a comment, in src/ a comment or a string
 STAYS = {".antt": re.compile(r"(?:^|(?<=\s))--(?= |$).*$", re.M), ".rt": re.compile(r"//.*$|\"(?:[^\"\\\n]|\\.)*\"", re.M)}
 # where the plain new spelling stands for something else already
-CHOSEN = {"ringOf": "ring_from", "count-in": "count_under_key"}
+CHOSEN = {"ringOf": "ring_from", "chainOf": "chain_in", "count-in": "count_under_key"}
 # a field or a local name beside a field of src/ with that name, never in one scope
 APART = {"hot-weight", "cold-weight"}
 # made by the toolchain: a branch of the code, an arm of a match
@@ -82,6 +82,8 @@ def main():
                 goals.update(names)
             else:
                 own.update(names)
+    for path in texts(".rt"):
+        own.update(re.findall(r"\bas ([a-z]\S*?)(?=[,};\s])", "".join(re.findall(r"^\s*ghost use [^;]*;", read(path), re.M))))
     everywhere = set().union(*foreign.values())
     for path in texts(".antt"):
         for m in re.finditer(r"(?<![^\s(){}\[\],;=|λ])" + TOKEN.pattern, without_comments(read(path))):

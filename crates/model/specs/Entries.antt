@@ -26,7 +26,7 @@ pub record Placeholder (K : Type 0) : Type 0 where
 --   written      by an edit
 --   hooked       passed to the hot hook (true) or to the cold hook (false)
 --   removed      handed back with its key, by remove
---   handed-back  by a refusal
+--   handed_back  by a refusal
 -- A lifecycle sees trims and hooks; the others are for the ledger.
 pub data Event (K V : Type 0) : Type 0 where
   offered : ℕ → Option K → V → Event K V

@@ -1,6 +1,6 @@
 -- Worked examples: short lists of calls and what is seen after them, computed by the rules. Keys are letters. A
 -- record is its weight, whether it is pinned, and whether a trim makes it weigh nothing.
-use Rattle.std.specs.Prelude.{◌≡◌, ℕ, Bool, true, false, cond, eqb, List, [], ◌∷◌, ◌++◌, negsuc, Ok, Float}
+use Rattle.std.specs.Prelude.{◌≡◌, ℕ, Bool, true, false, cond, nat_eq, List, [], ◌∷◌, ◌++◌, negsuc, Ok, Float}
 use Rattle.std.specs.Float.{fin}
 use Rattle.interface.specs.Meaning.{Keying}
 use Rattle.settings.specs.Rules.{Limits, set_up, default_hot}
@@ -38,7 +38,7 @@ g = 7
 
 -- equal letters are equal keys, and each is its own hash
 abbrev pub letters : Keying Letter
-letters = record { same = eqb; code = λ k. k }
+letters = record { same = nat_eq; code = λ k. k }
 
 -- an example's record
 pub record Example : Type 0 where

@@ -1,5 +1,5 @@
 -- The two clock hands, and shrinking: how room is made.
-use Rattle.std.specs.Prelude.{ℕ, zero, suc, ◌+◌, ◌*◌, Bool, true, false, cond, not, ◌||◌, ltb, List, [], ◌∷◌, ◌++◌, length, ◌==◌, nat_lt}
+use Rattle.std.specs.Prelude.{ℕ, zero, suc, ◌+◌, ◌*◌, Bool, true, false, cond, not, ◌||◌, List, [], ◌∷◌, ◌++◌, length, ◌==◌, nat_lt}
 use Rattle.settings.specs.Rules.{Limits}
 use Rattle.model.specs.Lists.{sum_of, every, mapped, tail, Pick, nothing, here, pick, when, loop}
 use Rattle.model.specs.Entries.{Resident, Event, trimmed, hooked, Rings, hot_ring, cold_ring, put, put_ghosts, note, weights, ring_weight, less_read, promoted, reweighed, enter}
@@ -74,7 +74,7 @@ module _ {K V : Type 0} where
 
   -- the hot hand steps while the hot weight is above the target, until it answers no
   unfoldable pub cool : Context K V → Rings K V → Rings K V
-  cool u t = loop (suc (length t.hot)) (λ x. ltb u.limits.target (weights x.hot)) (hot_hand u) t
+  cool u t = loop (suc (length t.hot)) (λ x. nat_lt u.limits.target (weights x.hot)) (hot_hand u) t
 
   -- The cold hand walks from the head past those that are pinned and have no reads.
   abbrev pub cold_stop : Context K V → List (Resident K V) → Pick (Resident K V)
@@ -98,4 +98,4 @@ module _ {K V : Type 0} where
   -- Shrinking: the cold hand steps while the rings and the weight that is to come exceed the capacity, until
   -- it answers no.
   unfoldable pub shrink : Context K V → ℕ → Rings K V → Rings K V
-  shrink u coming t = loop (suc (length t.hot + 2 * length t.cold)) (λ x. ltb u.limits.capacity (ring_weight x + coming)) (cold_hand u) t
+  shrink u coming t = loop (suc (length t.hot + 2 * length t.cold)) (λ x. nat_lt u.limits.capacity (ring_weight x + coming)) (cold_hand u) t

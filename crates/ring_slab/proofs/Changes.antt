@@ -6,7 +6,7 @@ use Rattle.ring_slab.specs.declared.slots.Slot.{Slot}
 use Rattle.ring_slab.specs.Places.{look, one, count, count_in, head_of, front, rest, behind_first, without, upto}
 use Rattle.ring_slab.specs.Slots.{buckets, chains, nexts, prevs, hashes, items, item_at}
 use Rattle.ring_slab.specs.Rings.{Ring, KeptOff}
-use Rattle.ring_slab.specs.Chains.{Chain, Ends, Table, bucket_of, chain, chain_of, home_of, Rechained}
+use Rattle.ring_slab.specs.Chains.{Chain, Ends, Table, bucket_of, chain, chain_in, home_of, Rechained}
 use Rattle.ring_slab.specs.Holding.{Rings, Holds, SameLinks}
 use Rattle.ring_slab.proofs.Counts.{one_at, one_off, count_append, count_head, count_less, count_without, count_behind, count_in_append}
 use Rattle.ring_slab.proofs.Writes.{ring_turned}
@@ -190,22 +190,22 @@ module _ {T : Type 0} where
         size = omega (arith, w.size);
       }
 
-  pub entered_place : (s s' : List (Slot T)) (free used at hash : ℕ) (rings : List (List ℕ)) (loose vacant entered : List ℕ) → at < length s → length s' ≡ length s → nexts s' ≡ nexts s → prevs s' ≡ prevs s → hashes s' ≡ set (hashes s) at hash → items s' ≡ items s → (Ends (look (chains s)) (length s) (look (buckets s) (bucket_of hash (length s))) → count at (chain_of s (bucket_of hash (length s))) ≡ 0 → Rechained s s' (bucket_of hash (length s)) at (behind_first at (chain_of s (bucket_of hash (length s))))) → Holds s free used rings loose vacant entered → count at vacant ≡ 0 → count at entered ≡ 0 → Holds s' free used rings loose vacant (at ∷ entered) × (chain_of s' (bucket_of hash (length s)) ≡ behind_first at (chain_of s (bucket_of hash (length s)))) × ((c : ℕ) → c < length s → (c ≡ bucket_of hash (length s) → ⊥) → chain_of s' c ≡ chain_of s c)
+  pub entered_place : (s s' : List (Slot T)) (free used at hash : ℕ) (rings : List (List ℕ)) (loose vacant entered : List ℕ) → at < length s → length s' ≡ length s → nexts s' ≡ nexts s → prevs s' ≡ prevs s → hashes s' ≡ set (hashes s) at hash → items s' ≡ items s → (Ends (look (chains s)) (length s) (look (buckets s) (bucket_of hash (length s))) → count at (chain_in s (bucket_of hash (length s))) ≡ 0 → Rechained s s' (bucket_of hash (length s)) at (behind_first at (chain_in s (bucket_of hash (length s))))) → Holds s free used rings loose vacant entered → count at vacant ≡ 0 → count at entered ≡ 0 → Holds s' free used rings loose vacant (at ∷ entered) × (chain_in s' (bucket_of hash (length s)) ≡ behind_first at (chain_in s (bucket_of hash (length s)))) × ((c : ℕ) → c < length s → (c ≡ bucket_of hash (length s) → ⊥) → chain_in s' c ≡ chain_in s c)
   entered_place s s' free used at hash rings loose vacant entered lt len ns ps hs is R w free_not out =
       let n = length s in
       let b = bucket_of hash n in
       let ltb = bucket_below hash n (omega arith) in
-      let none : (c : ℕ) → c < n → count at (chain_of s c) ≡ 0 = λ c lc. ⊎_elim (λ e. w.table.here c at lc e ∙ out) (λ ne. w.table.gone c at lc ne) (cases_eq (home_of s at) c) in
+      let none : (c : ℕ) → c < n → count at (chain_in s c) ≡ 0 = λ c lc. ⊎_elim (λ e. w.table.here c at lc e ∙ out) (λ ne. w.table.gone c at lc ne) (cases_eq (home_of s at) c) in
       let r = R (w.table.ends b ltb) (none b ltb) in
       let lh : at < length (hashes s) = simp length-map lt in
       let homes : (k : ℕ) → (k ≡ at → ⊥) → home_of s' k ≡ home_of s k = λ k ne. ap (λ m. bucket_of (look (hashes s') k) m) len ∙ ap (λ x. bucket_of x n) (rw hs (get_or-set_other (hashes s) at k hash 0 ne)) in
       let mine : home_of s' at ≡ b = ap (λ m. bucket_of (look (hashes s') at) m) len ∙ ap (λ x. bucket_of x n) (rw hs (get_or-set_same (hashes s) at hash 0 lh)) in
-      let now : chain (look (chains s')) n (look (buckets s') b) ≡ behind_first at (chain_of s b) = subst (λ m. chain (look (chains s')) m (look (buckets s') b) ≡ behind_first at (chain_of s b)) len r.now in
+      let now : chain (look (chains s')) n (look (buckets s') b) ≡ behind_first at (chain_in s b) = subst (λ m. chain (look (chains s')) m (look (buckets s') b) ≡ behind_first at (chain_in s b)) len r.now in
       let ends : Ends (look (chains s')) n (look (buckets s') b) = subst (λ m. Ends (look (chains s')) m (look (buckets s') b)) len r.ends in
-      let cnt : (k : ℕ) → count k (chain (look (chains s')) n (look (buckets s') b)) ≡ one k at + count k (chain_of s b) = λ k. ap (λ l. count k l) now ∙ count_behind k at (chain_of s b) in
+      let cnt : (k : ℕ) → count k (chain (look (chains s')) n (look (buckets s') b)) ≡ one k at + count k (chain_in s b) = λ k. ap (λ l. count k l) now ∙ count_behind k at (chain_in s b) in
       let same : (k : ℕ) → (k ≡ at → ⊥) → count k (at ∷ entered) ≡ count k entered = λ k ne. omega (arith, one_off k at ne) in
       let there : count at (chain (look (chains s')) n (look (buckets s') b)) ≡ count at (at ∷ entered) = omega (arith, cnt at, none b ltb) in
-      let rest' : (k : ℕ) → (k ≡ at → ⊥) → count k (chain (look (chains s')) n (look (buckets s') b)) ≡ count k (chain_of s b) = λ k ne. omega (arith, cnt k, one_off k at ne) in
+      let rest' : (k : ℕ) → (k ≡ at → ⊥) → count k (chain (look (chains s')) n (look (buckets s') b)) ≡ count k (chain_in s b) = λ k ne. omega (arith, cnt k, one_off k at ne) in
       let t = table_changed (look (chains s)) (look (chains s')) (look (buckets s)) (look (buckets s')) n (home_of s) (home_of s') (λ k. count k entered) (λ k. count k (at ∷ entered)) b at w.table ltb homes mine same (λ c lc ne. none c lc) ends there rest' r.kept r.heads in
       let o = other_chain (look (chains s)) (look (chains s')) (look (buckets s)) (look (buckets s')) n (home_of s) (home_of s') (λ k. count k entered) (λ k. count k (at ∷ entered)) b at w.table ltb homes mine same (λ c lc ne. none c lc) ends there rest' r.kept r.heads in (
         rechained s s' free used rings loose vacant entered (at ∷ entered) len ns ps is
@@ -216,25 +216,25 @@ module _ {T : Type 0} where
             (cases_eq k at))
             w,
         r.now,
-        λ c lc ne. subst (λ m. chain (look (chains s')) m (look (buckets s') c) ≡ chain_of s c) (sym len) (o c lc ne).0,
+        λ c lc ne. subst (λ m. chain (look (chains s')) m (look (buckets s') c) ≡ chain_in s c) (sym len) (o c lc ne).0,
       )
 
-  pub left_place : (s s' : List (Slot T)) (free used at : ℕ) (rings : List (List ℕ)) (loose vacant a c : List ℕ) → length s' ≡ length s → nexts s' ≡ nexts s → prevs s' ≡ prevs s → hashes s' ≡ hashes s → items s' ≡ items s → Rechained s s' (home_of s at) at (without at (chain_of s (home_of s at))) → Holds s free used rings loose vacant (a ++ at ∷ c) → Holds s' free used rings loose vacant (a ++ c) × (chain_of s' (home_of s at) ≡ without at (chain_of s (home_of s at))) × ((d : ℕ) → d < length s → (d ≡ home_of s at → ⊥) → chain_of s' d ≡ chain_of s d)
+  pub left_place : (s s' : List (Slot T)) (free used at : ℕ) (rings : List (List ℕ)) (loose vacant a c : List ℕ) → length s' ≡ length s → nexts s' ≡ nexts s → prevs s' ≡ prevs s → hashes s' ≡ hashes s → items s' ≡ items s → Rechained s s' (home_of s at) at (without at (chain_in s (home_of s at))) → Holds s free used rings loose vacant (a ++ at ∷ c) → Holds s' free used rings loose vacant (a ++ c) × (chain_in s' (home_of s at) ≡ without at (chain_in s (home_of s at))) × ((d : ℕ) → d < length s → (d ≡ home_of s at → ⊥) → chain_in s' d ≡ chain_in s d)
   left_place s s' free used at rings loose vacant a c len ns ps hs is r w =
       let n = length s in
       let b = home_of s at in
       let less : (k : ℕ) → count k (a ++ at ∷ c) ≡ one k at + count k (a ++ c) = λ k. count_less k at a c in
       let lt : at < n = (entered_used w at (omega (arith, less at, one_at at at refl))).0 in
       let ltb = bucket_below (look (hashes s) at) n (omega arith) in
-      let was : count at (chain_of s b) ≡ count at (a ++ at ∷ c) = w.table.here b at ltb refl in
+      let was : count at (chain_in s b) ≡ count at (a ++ at ∷ c) = w.table.here b at ltb refl in
       let homes : (k : ℕ) → home_of s' k ≡ home_of s k = λ k. ap (λ m. bucket_of (look (hashes s') k) m) len ∙ ap (λ l. bucket_of (look l k) n) hs in
-      let now : chain (look (chains s')) n (look (buckets s') b) ≡ without at (chain_of s b) = subst (λ m. chain (look (chains s')) m (look (buckets s') b) ≡ without at (chain_of s b)) len r.now in
+      let now : chain (look (chains s')) n (look (buckets s') b) ≡ without at (chain_in s b) = subst (λ m. chain (look (chains s')) m (look (buckets s') b) ≡ without at (chain_in s b)) len r.now in
       let ends : Ends (look (chains s')) n (look (buckets s') b) = subst (λ m. Ends (look (chains s')) m (look (buckets s') b)) len r.ends in
-      let cnt : (k : ℕ) → one k at + count k (chain (look (chains s')) n (look (buckets s') b)) ≡ count k (chain_of s b) = λ k. ap (λ l. one k at + count k l) now ∙ count_without k at (chain_of s b) (omega (arith, was, less at, one_at at at refl)) in
-      let only : (d : ℕ) → d < n → (d ≡ b → ⊥) → count at (chain_of s d) ≡ 0 = λ d ld ne. w.table.gone d at ld (λ e. ne (sym e)) in
+      let cnt : (k : ℕ) → one k at + count k (chain (look (chains s')) n (look (buckets s') b)) ≡ count k (chain_in s b) = λ k. ap (λ l. one k at + count k l) now ∙ count_without k at (chain_in s b) (omega (arith, was, less at, one_at at at refl)) in
+      let only : (d : ℕ) → d < n → (d ≡ b → ⊥) → count at (chain_in s d) ≡ 0 = λ d ld ne. w.table.gone d at ld (λ e. ne (sym e)) in
       let same : (k : ℕ) → (k ≡ at → ⊥) → count k (a ++ c) ≡ count k (a ++ at ∷ c) = λ k ne. omega (arith, less k, one_off k at ne) in
       let there : count at (chain (look (chains s')) n (look (buckets s') b)) ≡ count at (a ++ c) = omega (arith, cnt at, was, less at, one_at at at refl) in
-      let rest' : (k : ℕ) → (k ≡ at → ⊥) → count k (chain (look (chains s')) n (look (buckets s') b)) ≡ count k (chain_of s b) = λ k ne. omega (arith, cnt k, one_off k at ne) in
+      let rest' : (k : ℕ) → (k ≡ at → ⊥) → count k (chain (look (chains s')) n (look (buckets s') b)) ≡ count k (chain_in s b) = λ k ne. omega (arith, cnt k, one_off k at ne) in
       let t = table_changed (look (chains s)) (look (chains s')) (look (buckets s)) (look (buckets s')) n (home_of s) (home_of s') (λ k. count k (a ++ at ∷ c)) (λ k. count k (a ++ c)) b at w.table ltb (λ k ne. homes k) (homes at) same only ends there rest' r.kept r.heads in
       let o = other_chain (look (chains s)) (look (chains s')) (look (buckets s)) (look (buckets s')) n (home_of s) (home_of s') (λ k. count k (a ++ at ∷ c)) (λ k. count k (a ++ c)) b at w.table ltb (λ k ne. homes k) (homes at) same only ends there rest' r.kept r.heads in (
         rechained s s' free used rings loose vacant (a ++ at ∷ c) (a ++ c) len ns ps is
@@ -242,7 +242,7 @@ module _ {T : Type 0} where
             (λ k. omega (arith, less k, w.taken k))
             w,
         r.now,
-        λ d ld ne. subst (λ m. chain (look (chains s')) m (look (buckets s') d) ≡ chain_of s d) (sym len) (o d ld ne).0,
+        λ d ld ne. subst (λ m. chain (look (chains s')) m (look (buckets s') d) ≡ chain_in s d) (sym len) (o d ld ne).0,
       )
 
   -- ---- an item is written
@@ -271,7 +271,7 @@ module _ {T : Type 0} where
   fresh s small to heads none n =
       let e = length s in
       let some : (k : ℕ) → 1 ≤ count k (upto 0 e) → k < e = λ k h. ⊎_elim (λ l. l) (λ l. absurd (omega (arith, (count_upto k 0 e).0.1 (omega arith)))) (cases_lt k e) in
-      let bucket : (b : ℕ) → b < e → (chain_of s b ≡ []) × Ends (look (chains s)) e (look (buckets s) b) = λ b lb. ends_from (look (chains s)) e (look (buckets s) b) [] (heads b lb) (λ k. omega arith) (λ k h. absurd (omega arith)) in
+      let bucket : (b : ℕ) → b < e → (chain_in s b ≡ []) × Ends (look (chains s)) e (look (buckets s) b) = λ b lb. ends_from (look (chains s)) e (look (buckets s) b) [] (heads b lb) (λ k. omega arith) (λ k h. absurd (omega arith)) in
       record {
         each = rings_none s n;
         freed = chain_upto (look (nexts s)) e 0 e to (omega arith);

@@ -5,7 +5,7 @@ use Rattle.ring_slab.specs.declared.slots.Slot.{Slot}
 use Rattle.ring_slab.specs.Places.{look, count, count_in, lengths, head_of}
 use Rattle.ring_slab.specs.Slots.{nexts, hashes}
 use Rattle.ring_slab.specs.Rings.{Ring, KeptOff, ring_from, Linked, Linkable}
-use Rattle.ring_slab.specs.Chains.{Ends, chain_of, free_of, home_of, Chained}
+use Rattle.ring_slab.specs.Chains.{Ends, chain_in, free_of, home_of, Chained}
 use Rattle.ring_slab.specs.Holding.{total, Rings, Holds}
 use Rattle.ring_slab.proofs.Counts.{one_at, one_off, count_head, placed_length, all_length}
 use Rattle.ring_slab.proofs.Writes.{links, ring_kept}
@@ -60,7 +60,7 @@ module _ {T : Type 0} where
     vacant_is = ends_from (look (nexts s)) (length s) free vacant w.freed (λ k. omega (arith, at_most k)) (λ k h. below k (omega arith))
 
     -- each entered place stands once in the chain of its bucket
-    pub entered_is : (k : ℕ) → 1 ≤ length s → count k (chain_of s (home_of s k)) ≡ count k entered
+    pub entered_is : (k : ℕ) → 1 ≤ length s → count k (chain_in s (home_of s k)) ≡ count k entered
     entered_is k h = w.table.here (home_of s k) k (bucket_below (look (hashes s) k) (length s) h) refl
 
     -- ---- what the calls ask

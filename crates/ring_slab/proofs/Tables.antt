@@ -5,13 +5,13 @@ use Rattle.std.proofs.lemmas.Bool.{cases_eq}
 use Rattle.ring_slab.specs.declared.slots.Slot.{Slot}
 use Rattle.ring_slab.specs.Places.{look, count, behind_first, without}
 use Rattle.ring_slab.specs.Slots.{buckets, chains}
-use Rattle.ring_slab.specs.Chains.{chain, Ends, Table, chain_of, Rechained}
+use Rattle.ring_slab.specs.Chains.{chain, Ends, Table, chain_in, Rechained}
 use Rattle.ring_slab.proofs.Counts.{one_at, count_append, count_head, apart, without_is}
 use Rattle.ring_slab.proofs.Chains.{step, at_end, chain_past, chain_kept, chain_alone, chain_behind, chain_cut}
 
 module _ {T : Type 0} (s s' : List (Slot T)) (b at : ℕ) (len : length s' ≡ length s) where
   -- a bucket's chain in the new slots, known at the old length
-  made : (ys : List ℕ) → (chain (look (chains s')) (length s) (look (buckets s') b) ≡ ys) × Ends (look (chains s')) (length s) (look (buckets s') b) → ((k : ℕ) → (k ≡ at → ⊥) → count k (chain_of s b) ≡ 0 → look (chains s') k ≡ look (chains s) k) → ((c : ℕ) → (c ≡ b → ⊥) → look (buckets s') c ≡ look (buckets s) c) → Rechained s s' b at ys
+  made : (ys : List ℕ) → (chain (look (chains s')) (length s) (look (buckets s') b) ≡ ys) × Ends (look (chains s')) (length s) (look (buckets s') b) → ((k : ℕ) → (k ≡ at → ⊥) → count k (chain_in s b) ≡ 0 → look (chains s') k ≡ look (chains s) k) → ((c : ℕ) → (c ≡ b → ⊥) → look (buckets s') c ≡ look (buckets s) c) → Rechained s s' b at ys
   made ys q kept heads =
       record {
         now = subst (λ e. chain (look (chains s')) e (look (buckets s') b) ≡ ys) (sym len) q.0;
@@ -24,26 +24,26 @@ module _ {T : Type 0} (s s' : List (Slot T)) (b at : ℕ) (len : length s' ≡ l
   same_heads : buckets s' ≡ buckets s → (c : ℕ) → look (buckets s') c ≡ look (buckets s) c
   same_heads e c = ap (λ l. look l c) e
 
-  pub entered_behind : (h₀ second : ℕ) → h₀ ≡ look (buckets s) b → second ≡ look (chains s) h₀ → at < length s → Ends (look (chains s)) (length s) (look (buckets s) b) → count at (chain_of s b) ≡ 0 → h₀ < length s → buckets s' ≡ buckets s → chains s' ≡ set (set (chains s) at second) h₀ at → Rechained s s' b at (behind_first at (chain_of s b))
+  pub entered_behind : (h₀ second : ℕ) → h₀ ≡ look (buckets s) b → second ≡ look (chains s) h₀ → at < length s → Ends (look (chains s)) (length s) (look (buckets s) b) → count at (chain_in s b) ≡ 0 → h₀ < length s → buckets s' ≡ buckets s → chains s' ≡ set (set (chains s) at second) h₀ at → Rechained s s' b at (behind_first at (chain_in s b))
   entered_behind h₀ second is next here w out lt₀ bs cs₀ =
       let n = look (chains s) in
       let h = look (buckets s) b in
       let lt : h < length s = omega arith in
       let cs : chains s' ≡ set (set (chains s) at (n h)) h at = rw (next, is) at cs₀ in
-      let in_h : 1 ≤ count h (chain_of s b) = omega (arith, ap (λ l. count h l) (step n (length s) h w lt).0, count_head h (chain n (length s) (n h))) in
-      let ne : (at ≡ h → ⊥) = λ e. apart at h (chain_of s b) out in_h e in
+      let in_h : 1 ≤ count h (chain_in s b) = omega (arith, ap (λ l. count h l) (step n (length s) h w lt).0, count_head h (chain n (length s) (n h))) in
+      let ne : (at ≡ h → ⊥) = λ e. apart at h (chain_in s b) out in_h e in
       let la : at < length (chains s) = simp length-map here in
       let lh : h < length (set (chains s) at (n h)) = simp (length-set, length-map) lt in
       let to : look (chains s') h ≡ at = rw cs (get_or-set_same (set (chains s) at (n h)) h at 0 lh) in
       let on : look (chains s') at ≡ n h = rw cs (get_or-set_other (set (chains s) at (n h)) h at at 0 ne ∙ get_or-set_same (chains s) at (n h) 0 la) in
       let same : (k : ℕ) → (k ≡ h → ⊥) → (k ≡ at → ⊥) → look (chains s') k ≡ n k = λ k nh na. rw cs (get_or-set_other (set (chains s) at (n h)) h k at 0 nh ∙ get_or-set_other (chains s) at k (n h) 0 na) in
       let q = chain_behind n (look (chains s')) (length s) h at w lt out here to on same in
-      made (behind_first at (chain_of s b))
-      (subst (λ i. (chain (look (chains s')) (length s) i ≡ behind_first at (chain_of s b)) × Ends (look (chains s')) (length s) i) (sym (same_heads bs b)) q)
-      (λ k na z. same k (apart k h (chain_of s b) z in_h) na)
+      made (behind_first at (chain_in s b))
+      (subst (λ i. (chain (look (chains s')) (length s) i ≡ behind_first at (chain_in s b)) × Ends (look (chains s')) (length s) i) (sym (same_heads bs b)) q)
+      (λ k na z. same k (apart k h (chain_in s b) z in_h) na)
       (λ c nc. same_heads bs c)
 
-  pub entered_first : (h₀ : ℕ) → h₀ ≡ look (buckets s) b → at < length s → b < length s → Ends (look (chains s)) (length s) (look (buckets s) b) → length s ≤ h₀ → buckets s' ≡ set (buckets s) b at → chains s' ≡ set (chains s) at h₀ → Rechained s s' b at (behind_first at (chain_of s b))
+  pub entered_first : (h₀ : ℕ) → h₀ ≡ look (buckets s) b → at < length s → b < length s → Ends (look (chains s)) (length s) (look (buckets s) b) → length s ≤ h₀ → buckets s' ≡ set (buckets s) b at → chains s' ≡ set (chains s) at h₀ → Rechained s s' b at (behind_first at (chain_in s b))
   entered_first h₀ is₀ here lb w past₀ bs cs₀ =
       let n = look (chains s) in
       let h = look (buckets s) b in
@@ -54,39 +54,39 @@ module _ {T : Type 0} (s s' : List (Slot T)) (b at : ℕ) (len : length s' ≡ l
       let to : look (chains s') at ≡ length s = rw cs (get_or-set_same (chains s) at h 0 la ∙ at_end n (length s) h w past) in
       let q = chain_alone n (look (chains s')) (length s) at here to in
       let front : look (buckets s') b ≡ at = rw bs (get_or-set_same (buckets s) b at 0 lb') in
-      made (behind_first at (chain_of s b))
-      (subst (λ i. (chain (look (chains s')) (length s) i ≡ behind_first at (chain_of s b)) × Ends (look (chains s')) (length s) i) (sym front)
+      made (behind_first at (chain_in s b))
+      (subst (λ i. (chain (look (chains s')) (length s) i ≡ behind_first at (chain_in s b)) × Ends (look (chains s')) (length s) i) (sym front)
       (q.0 ∙ ap (λ l. behind_first at l) (sym (chain_past n (length s) h past)), q.1))
       (λ k na z. rw cs (get_or-set_other (chains s) at k h 0 na))
       (λ c nc. rw bs (get_or-set_other (buckets s) b c at 0 nc))
 
-  pub left_first : b < length s → Ends (look (chains s)) (length s) (look (buckets s) b) → look (buckets s) b ≡ at → at < length s → buckets s' ≡ set (buckets s) b (look (chains s) at) → chains s' ≡ chains s → Rechained s s' b at (without at (chain_of s b))
+  pub left_first : b < length s → Ends (look (chains s)) (length s) (look (buckets s) b) → look (buckets s) b ≡ at → at < length s → buckets s' ≡ set (buckets s) b (look (chains s) at) → chains s' ≡ chains s → Rechained s s' b at (without at (chain_in s b))
   left_first lb w is here bs cs =
       let n = look (chains s) in
       let lb' : b < length (buckets s) = simp length-map lb in
       let wa : Ends n (length s) at = subst (λ i. Ends n (length s) i) is w in
       let q = step n (length s) at wa here in
       let front : look (buckets s') b ≡ n at = rw bs (get_or-set_same (buckets s) b (n at) 0 lb') in
-      let was : chain_of s b ≡ at ∷ chain n (length s) (n at) = ap (λ i. chain n (length s) i) is ∙ q.0 in
-      let less : chain n (length s) (n at) ≡ without at (chain_of s b) = sym (ap (λ l. without at l) was ∙ without_is at [] (chain n (length s) (n at)) refl) in
-      made (without at (chain_of s b))
-      (subst (λ l. (chain (look l) (length s) (look (buckets s') b) ≡ without at (chain_of s b)) × Ends (look l) (length s) (look (buckets s') b)) (sym cs)
-      (subst (λ i. (chain n (length s) i ≡ without at (chain_of s b)) × Ends n (length s) i) (sym front) (less, q.1)))
+      let was : chain_in s b ≡ at ∷ chain n (length s) (n at) = ap (λ i. chain n (length s) i) is ∙ q.0 in
+      let less : chain n (length s) (n at) ≡ without at (chain_in s b) = sym (ap (λ l. without at l) was ∙ without_is at [] (chain n (length s) (n at)) refl) in
+      made (without at (chain_in s b))
+      (subst (λ l. (chain (look l) (length s) (look (buckets s') b) ≡ without at (chain_in s b)) × Ends (look l) (length s) (look (buckets s') b)) (sym cs)
+      (subst (λ i. (chain n (length s) i ≡ without at (chain_in s b)) × Ends n (length s) i) (sym front) (less, q.1)))
       (λ k na z. ap (λ l. look l k) cs)
       (λ c nc. rw bs (get_or-set_other (buckets s) b c (n at) 0 nc))
 
-  pub left_later : (p : ℕ) (x y : List ℕ) → Ends (look (chains s)) (length s) (look (buckets s) b) → chain_of s b ≡ x ++ p ∷ at ∷ y → p < length s → buckets s' ≡ buckets s → chains s' ≡ set (chains s) p (look (chains s) at) → Rechained s s' b at (without at (chain_of s b))
+  pub left_later : (p : ℕ) (x y : List ℕ) → Ends (look (chains s)) (length s) (look (buckets s) b) → chain_in s b ≡ x ++ p ∷ at ∷ y → p < length s → buckets s' ≡ buckets s → chains s' ≡ set (chains s) p (look (chains s) at) → Rechained s s' b at (without at (chain_in s b))
   left_later p x y w was lt bs cs =
       let n = look (chains s) in
       let lp : p < length (chains s) = simp length-map lt in
       let to : look (chains s') p ≡ n at = rw cs (get_or-set_same (chains s) p (n at) 0 lp) in
       let same : (k : ℕ) → (k ≡ p → ⊥) → look (chains s') k ≡ n k = λ k ne. rw cs (get_or-set_other (chains s) p k (n at) 0 ne) in
       let q = chain_cut n (look (chains s')) (length s) (look (buckets s) b) p at x y w was to same in
-      let split : chain_of s b ≡ (x ++ p ∷ []) ++ at ∷ y = was ∙ sym (append_assoc x (p ∷ []) (at ∷ y)) in
+      let split : chain_in s b ≡ (x ++ p ∷ []) ++ at ∷ y = was ∙ sym (append_assoc x (p ∷ []) (at ∷ y)) in
       let out : count at (x ++ p ∷ []) ≡ 0 = omega (arith, w.once at, ap (λ l. count at l) split, count_append at (x ++ p ∷ []) (at ∷ y), one_at at at refl) in
-      let less : x ++ p ∷ y ≡ without at (chain_of s b) = sym (ap (λ l. without at l) split ∙ without_is at (x ++ p ∷ []) y out ∙ append_assoc x (p ∷ []) y) in
-      made (without at (chain_of s b))
-      (subst (λ i. (chain (look (chains s')) (length s) i ≡ without at (chain_of s b)) × Ends (look (chains s')) (length s) i) (sym (same_heads bs b)) (q.0 ∙ less, q.1))
+      let less : x ++ p ∷ y ≡ without at (chain_in s b) = sym (ap (λ l. without at l) split ∙ without_is at (x ++ p ∷ []) y out ∙ append_assoc x (p ∷ []) y) in
+      made (without at (chain_in s b))
+      (subst (λ i. (chain (look (chains s')) (length s) i ≡ without at (chain_in s b)) × Ends (look (chains s')) (length s) i) (sym (same_heads bs b)) (q.0 ∙ less, q.1))
       (λ k na z. same k (λ e. omega (arith, z, ap (λ l. count k l) was, count_append k x (p ∷ at ∷ y), one_at k p e)))
       (λ c nc. same_heads bs c)
 

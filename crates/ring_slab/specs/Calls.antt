@@ -4,7 +4,7 @@ use Rattle.ring_slab.specs.declared.slots.Slot.{Slot}
 use Rattle.ring_slab.specs.declared.linked_slab.LinkedSlab.{LinkedSlab}
 use Rattle.ring_slab.specs.Places.{count, head_of, front, rest, behind_first, without, upto}
 use Rattle.ring_slab.specs.Rings.{Ring}
-use Rattle.ring_slab.specs.Chains.{chain_of, rest_of}
+use Rattle.ring_slab.specs.Chains.{chain_in, rest_of}
 use Rattle.ring_slab.specs.Holding.{Holds}
 
 -- a list with v at the place in o; as it was without one
@@ -48,12 +48,12 @@ module _ {T : Type 0} where
   -- `enter`: a used place that is not entered comes into the chain of bucket b, behind its first place
   abbrev pub Enters : LinkedSlab T → LinkedSlab T → ℕ → ℕ → Type 0
   Enters m m' at b =
-      (rings : List (List ℕ)) (loose vacant entered : List ℕ) → Held m rings loose vacant entered → count at vacant ≡ 0 → count at entered ≡ 0 → Held m' rings loose vacant (at ∷ entered) × (chain_of (slots_of m') b ≡ behind_first at (chain_of (slots_of m) b)) × ((c : ℕ) → c < length (slots_of m) → (c ≢ b) → chain_of (slots_of m') c ≡ chain_of (slots_of m) c)
+      (rings : List (List ℕ)) (loose vacant entered : List ℕ) → Held m rings loose vacant entered → count at vacant ≡ 0 → count at entered ≡ 0 → Held m' rings loose vacant (at ∷ entered) × (chain_in (slots_of m') b ≡ behind_first at (chain_in (slots_of m) b)) × ((c : ℕ) → c < length (slots_of m) → (c ≢ b) → chain_in (slots_of m') c ≡ chain_in (slots_of m) c)
 
   -- `leave`: an entered place leaves the chain of bucket b
   abbrev pub Leaves : LinkedSlab T → LinkedSlab T → ℕ → ℕ → Type 0
   Leaves m m' at b =
-      (rings : List (List ℕ)) (loose vacant a c : List ℕ) → Held m rings loose vacant (a ++ at ∷ c) → Held m' rings loose vacant (a ++ c) × (chain_of (slots_of m') b ≡ without at (chain_of (slots_of m) b)) × ((d : ℕ) → d < length (slots_of m) → (d ≢ b) → chain_of (slots_of m') d ≡ chain_of (slots_of m) d)
+      (rings : List (List ℕ)) (loose vacant a c : List ℕ) → Held m rings loose vacant (a ++ at ∷ c) → Held m' rings loose vacant (a ++ c) × (chain_in (slots_of m') b ≡ without at (chain_in (slots_of m) b)) × ((d : ℕ) → d < length (slots_of m) → (d ≢ b) → chain_in (slots_of m') d ≡ chain_in (slots_of m) d)
 
   -- an item is written in place: the lists stay, where the place was used
   abbrev pub Stores : LinkedSlab T → LinkedSlab T → ℕ → Type 0
@@ -67,4 +67,4 @@ module _ {T : Type 0} where
   -- `after`: the next place in the chain of a bucket, and what is left of the chain from there on
   abbrev pub Follows : LinkedSlab T → ℕ → Option ℕ → Type 0
   Follows m at r =
-      (rings : List (List ℕ)) (loose vacant entered : List ℕ) (bucket : ℕ) (a b : List ℕ) → Held m rings loose vacant entered → bucket < length (slots_of m) → chain_of (slots_of m) bucket ≡ a ++ at ∷ b → (r ≡ head_of b) × (rest_of (slots_of m) r ≡ b)
+      (rings : List (List ℕ)) (loose vacant entered : List ℕ) (bucket : ℕ) (a b : List ℕ) → Held m rings loose vacant entered → bucket < length (slots_of m) → chain_in (slots_of m) bucket ≡ a ++ at ∷ b → (r ≡ head_of b) × (rest_of (slots_of m) r ≡ b)

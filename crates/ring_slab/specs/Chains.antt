@@ -52,8 +52,8 @@ module _ {T : Type 0} where
   rest_of s (Some i) = chain_from s i
 
   -- the chain of a bucket
-  abbrev pub chain_of : List (Slot T) → ℕ → List ℕ
-  chain_of s b = chain_from s (look (buckets s) b)
+  abbrev pub chain_in : List (Slot T) → ℕ → List ℕ
+  chain_in s b = chain_from s (look (buckets s) b)
 
   -- the bucket of the hash that a slot keeps
   abbrev pub home_of : List (Slot T) → ℕ → ℕ
@@ -63,7 +63,7 @@ module _ {T : Type 0} where
   pub record Chained (s : List (Slot T)) (at : ℕ) : Type 0 where
     pub place : at < length s
     pub ends : Ends (look (chains s)) (length s) (look (buckets s) (home_of s at))
-    pub there : 1 ≤ count at (chain_of s (home_of s at))
+    pub there : 1 ≤ count at (chain_in s (home_of s at))
 
   -- r stands right before `at` in the chain from i on
   pub record JustBefore (s : List (Slot T)) (i at r : ℕ) : Type 0 where
@@ -75,7 +75,7 @@ module _ {T : Type 0} where
   -- The chain of bucket b is now ys. The links of the places that were not in it, but for `at`, are as they were,
   -- and so are the other buckets.
   pub record Rechained (s s' : List (Slot T)) (b at : ℕ) (ys : List ℕ) : Type 0 where
-    pub now : chain_of s' b ≡ ys
+    pub now : chain_in s' b ≡ ys
     pub ends : Ends (look (chains s')) (length s') (look (buckets s') b)
-    pub kept : (k : ℕ) → (k ≢ at) → count k (chain_of s b) ≡ 0 → look (chains s') k ≡ look (chains s) k
+    pub kept : (k : ℕ) → (k ≢ at) → count k (chain_in s b) ≡ 0 → look (chains s') k ≡ look (chains s) k
     pub heads : (c : ℕ) → (c ≢ b) → look (buckets s') c ≡ look (buckets s) c

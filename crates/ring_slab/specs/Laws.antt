@@ -4,7 +4,7 @@ use Rattle.ring_slab.specs.declared.slots.Slot.{Slot}
 use Rattle.ring_slab.specs.declared.linked_slab.LinkedSlab.{LinkedSlab}
 use Rattle.ring_slab.specs.Places.{count, count_in, lengths, head_of}
 use Rattle.ring_slab.specs.Rings.{Ring, ring_from, Linked, Linkable}
-use Rattle.ring_slab.specs.Chains.{free_of, chain_of, home_of, Chained}
+use Rattle.ring_slab.specs.Chains.{free_of, chain_in, home_of, Chained}
 use Rattle.ring_slab.specs.Holding.{Holds, SameLinks}
 use Rattle.ring_slab.specs.Calls.{slots_of, Held}
 
@@ -14,7 +14,7 @@ module _ {T : Type 0} where
   pub record ReadOff (m : LinkedSlab T) : Type 0 where
     pub ring : (xs : List ℕ) → Ring (slots_of m) xs → ring_from (slots_of m) (head_of xs) (length xs) ≡ xs
     pub vacant : (rings : List (List ℕ)) (loose vacant entered : List ℕ) → Held m rings loose vacant entered → free_of (slots_of m) m.free ≡ vacant
-    pub entered : (rings : List (List ℕ)) (loose vacant entered : List ℕ) → Held m rings loose vacant entered → (k : ℕ) → k < length (slots_of m) → count k (chain_of (slots_of m) (home_of (slots_of m) k)) ≡ count k entered
+    pub entered : (rings : List (List ℕ)) (loose vacant entered : List ℕ) → Held m rings loose vacant entered → (k : ℕ) → k < length (slots_of m) → count k (chain_in (slots_of m) (home_of (slots_of m) k)) ≡ count k entered
     pub used : (rings : List (List ℕ)) (loose vacant entered : List ℕ) → Held m rings loose vacant entered → lengths rings + length loose ≡ m.used
 
   -- What the calls ask can be met by whoever knows what the slab holds.

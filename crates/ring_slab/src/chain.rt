@@ -2,7 +2,7 @@
 ghost use Rattle.std.specs.Prelude.{◌≡◌, ◌<◌, ◌≤◌, length, ◌≢◌, slice_set};
 ghost use Rattle.ring_slab.specs.Places.{look, count, head_of, behind_first, without};
 ghost use Rattle.ring_slab.specs.Slots.{buckets, chains, nexts, prevs, hashes, items, Columns};
-ghost use Rattle.ring_slab.specs.Chains.{bucket_of, Ends, chain_from, chain_of, rest_of, home_of, Chained, JustBefore, Rechained};
+ghost use Rattle.ring_slab.specs.Chains.{bucket_of, Ends, chain_from, chain_in, rest_of, home_of, Chained, JustBefore, Rechained};
 
 use crate::field::{bucket_head, chain_of, hash_of};
 use crate::slots::Slot;
@@ -32,8 +32,8 @@ pub(crate) fn linked_place<T: Copy>(slots: &[Slot<T>], link: u32) -> Option<u32>
 // The first place in the chain of a hash's bucket.
 pub fn first<T: Copy>(slots: &[Slot<T>], hash: u64) -> Option<u32>
     requires { length slots.now ≤ 1048576 }
-    ensures place { result ≡ head_of (chain_of slots.now (bucket_of hash (length slots.now))) }
-    ensures rest { rest_of slots.now result ≡ chain_of slots.now (bucket_of hash (length slots.now)) }
+    ensures place { result ≡ head_of (chain_in slots.now (bucket_of hash (length slots.now))) }
+    ensures rest { rest_of slots.now result ≡ chain_in slots.now (bucket_of hash (length slots.now)) }
 {
     if slots.len() == 0 {
         return None;
@@ -57,7 +57,7 @@ pub fn after<T: Copy>(slots: &[Slot<T>], at: u32) -> Option<u32>
 pub(crate) fn enter<T: Copy>(slots: &mut [Slot<T>], at: u32, hash: u64)
     requires place { at < length slots.old }
     requires size { length slots.old ≤ 1048576 }
-    ensures chain { Ends (look (chains slots.old)) (length slots.old) (look (buckets slots.old) (bucket_of hash (length slots.old))) → count at (chain_of slots.old (bucket_of hash (length slots.old))) ≡ 0 → Rechained slots.old slots.new (bucket_of hash (length slots.old)) at (behind_first at (chain_of slots.old (bucket_of hash (length slots.old)))) }
+    ensures chain { Ends (look (chains slots.old)) (length slots.old) (look (buckets slots.old) (bucket_of hash (length slots.old))) → count at (chain_in slots.old (bucket_of hash (length slots.old))) ≡ 0 → Rechained slots.old slots.new (bucket_of hash (length slots.old)) at (behind_first at (chain_in slots.old (bucket_of hash (length slots.old)))) }
     ensures others { Columns slots.new (buckets slots.new) (chains slots.new) (nexts slots.old) (prevs slots.old) (slice_set (hashes slots.old) at hash) (items slots.old) }
 {
     let bucket = bucket_of(hash, slots.len());
@@ -93,7 +93,7 @@ pub(crate) fn place_before<T: Copy>(slots: &[Slot<T>], first: u32, at: u32) -> u
 pub(crate) fn leave<T: Copy>(slots: &mut [Slot<T>], at: u32)
     requires chained { Chained slots.old at }
     requires size { length slots.old ≤ 1048576 }
-    ensures chain { Rechained slots.old slots.new (home_of slots.old at) at (without at (chain_of slots.old (home_of slots.old at))) }
+    ensures chain { Rechained slots.old slots.new (home_of slots.old at) at (without at (chain_in slots.old (home_of slots.old at))) }
     ensures others { Columns slots.new (buckets slots.new) (chains slots.new) (nexts slots.old) (prevs slots.old) (hashes slots.old) (items slots.old) }
 {
     let hash = hash_of(slots, at);

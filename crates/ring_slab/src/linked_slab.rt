@@ -3,7 +3,7 @@ ghost use Rattle.std.specs.Prelude.{◌≡◌, ◌<◌, ◌≤◌, min, length, 
 ghost use Rattle.ring_slab.specs.Places.{look, head_of};
 ghost use Rattle.ring_slab.specs.Slots.{chains, nexts, prevs, hashes, items, item_at, SameChains, SameRings};
 ghost use Rattle.ring_slab.specs.Rings.{Linked, Linkable};
-ghost use Rattle.ring_slab.specs.Chains.{bucket_of, chain_from, chain_of, rest_of, home_of, Chained};
+ghost use Rattle.ring_slab.specs.Chains.{bucket_of, chain_from, chain_in, rest_of, home_of, Chained};
 ghost use Rattle.ring_slab.specs.Calls.{slots_of, set_if, Fresh, Takes, Frees, Links, Unlinks, Enters, Leaves, Stores, Turns, Follows};
 
 use crate::slots::Slot;
@@ -136,8 +136,8 @@ impl<'a, T: Copy> LinkedSlab<'a, T> {
     // The first place in the chain of a hash's bucket, which holds every place entered under that hash.
     pub fn first(&self, hash: u64) -> Option<u32>
         requires { length (slots_of self.now) ≤ 1048576 }
-        ensures place { result ≡ head_of (chain_of (slots_of self.now) (bucket_of hash (length (slots_of self.now)))) }
-        ensures rest { rest_of (slots_of self.now) result ≡ chain_of (slots_of self.now) (bucket_of hash (length (slots_of self.now))) }
+        ensures place { result ≡ head_of (chain_in (slots_of self.now) (bucket_of hash (length (slots_of self.now)))) }
+        ensures rest { rest_of (slots_of self.now) result ≡ chain_in (slots_of self.now) (bucket_of hash (length (slots_of self.now))) }
     {
         chain::first(self.slots, hash)
     }

@@ -6,7 +6,7 @@ use Rattle.interface.specs.Meaning.{Keying}
 use Rattle.ring_slab.specs.Places.{look, count, head_of}
 use Rattle.ring_slab.specs.Slots.{chains, nexts, hashes, item_at}
 use Rattle.ring_slab.specs.Rings.{walk}
-use Rattle.ring_slab.specs.Chains.{bucket_of, chain_of, rest_of}
+use Rattle.ring_slab.specs.Chains.{bucket_of, chain_in, rest_of}
 use Rattle.ring_slab.specs.Calls.{slots_of, Follows}
 use Rattle.ring_slab.specs.declared.slots.Slot.{Slot}
 use Rattle.ring_slab.specs.declared.linked_slab.LinkedSlab.{LinkedSlab}
@@ -28,7 +28,7 @@ GhostsSeen s hash ks S.Nothing = NoneOf (GhostAt s hash) ks
 pub record Walked {K V : Type 0} (m : LinkedSlab (Entry K V)) (hash : ℕ) (e : Keying K) (key : K) (next : Option ℕ) (seen : Sighting) : Type 0 where
   pub passed : List ℕ
   pub coming : List ℕ
-  pub chain : chain_of (slots_of m) (bucket_of hash (length (slots_of m))) ≡ passed ++ coming
+  pub chain : chain_in (slots_of m) (bucket_of hash (length (slots_of m))) ≡ passed ++ coming
   pub first : next ≡ head_of coming
   pub rest : rest_of (slots_of m) next ≡ coming
   pub unkeyed : NoneOf (KeyedAt (slots_of m) hash e key) passed
@@ -86,16 +86,16 @@ all_seen s hash e key ks S.Ghosts none w = (none, w)
 all_seen s hash e key ks S.Nothing none w = (none, w)
 
 module _ {K V : Type 0} {m : LinkedSlab (Entry K V)} {hash : ℕ} {e : Keying K} {key : K} where
-  pub walked_none : (next : Option ℕ) → next ≡ head_of (chain_of (slots_of m) (bucket_of hash (length (slots_of m)))) → rest_of (slots_of m) next ≡ chain_of (slots_of m) (bucket_of hash (length (slots_of m))) → Walked m hash e key next S.Nothing
+  pub walked_none : (next : Option ℕ) → next ≡ head_of (chain_in (slots_of m) (bucket_of hash (length (slots_of m)))) → rest_of (slots_of m) next ≡ chain_in (slots_of m) (bucket_of hash (length (slots_of m))) → Walked m hash e key next S.Nothing
   walked_none next first rest =
-      record { passed = []; coming = chain_of (slots_of m) (bucket_of hash (length (slots_of m))); chain = refl; first = first; rest = rest; unkeyed = λ j h q. omega arith; ghosts = λ j h q. omega arith }
+      record { passed = []; coming = chain_in (slots_of m) (bucket_of hash (length (slots_of m))); chain = refl; first = first; rest = rest; unkeyed = λ j h q. omega arith; ghosts = λ j h q. omega arith }
 
   module _ (kept : Kept m) {here : Option ℕ} {seen : Sighting} (w : Walked m hash e key here seen) (at : ℕ) (is : here ≡ Some at) where
     -- the place stands between those passed and the others
-    stands_at : (b : List ℕ) × (chain_of (slots_of m) (bucket_of hash (length (slots_of m))) ≡ w.passed ++ at ∷ b) × (w.coming ≡ at ∷ b)
+    stands_at : (b : List ℕ) × (chain_in (slots_of m) (bucket_of hash (length (slots_of m))) ≡ w.passed ++ at ∷ b) × (w.coming ≡ at ∷ b)
     stands_at = let q = head_is at w.coming (sym is ∙ w.first) in (q.0, w.chain ∙ ap (λ l. w.passed ++ l) q.1, q.1)
 
-    in_chain : 1 ≤ count at (chain_of (slots_of m) (bucket_of hash (length (slots_of m))))
+    in_chain : 1 ≤ count at (chain_in (slots_of m) (bucket_of hash (length (slots_of m))))
     in_chain = let q = stands_at in omega (arith, ap (count at) q.1, count_append at w.passed (at ∷ q.0), one_at at at refl)
 
     bucket_fits : bucket_of hash (length (slots_of m)) < length (slots_of m)
@@ -109,7 +109,7 @@ module _ {K V : Type 0} {m : LinkedSlab (Entry K V)} {hash : ℕ} {e : Keying K}
         let q = stands_at in
         omega (arith, ap (count at) q.1, count_append at w.passed (at ∷ q.0), one_at at at refl, (kept.held.table.ends _ bucket_fits).once at)
 
-    pub walked_keyed : KeyedAt (slots_of m) hash e key at → Sights (slots_of m) hash e key (chain_of (slots_of m) (bucket_of hash (length (slots_of m)))) (S.Keyed at)
+    pub walked_keyed : KeyedAt (slots_of m) hash e key at → Sights (slots_of m) hash e key (chain_in (slots_of m) (bucket_of hash (length (slots_of m)))) (S.Keyed at)
     walked_keyed k = (in_chain, k)
 
     module _ (next : Option ℕ) (follows : Follows m at next) where
@@ -149,9 +149,9 @@ module _ {K V : Type 0} {m : LinkedSlab (Entry K V)} {hash : ℕ} {e : Keying K}
           (walked_more (λ k. both_ways _ unkeyed k.same) (seen_more (slots_of m) hash at (record { hashed = hashed; ghost = ghost }) seen w.passed not_passed w.ghosts))
 
   -- past the last place
-  pub walked_all : {here : Option ℕ} {seen : Sighting} → Walked m hash e key here seen → here ≡ None → Sights (slots_of m) hash e key (chain_of (slots_of m) (bucket_of hash (length (slots_of m)))) seen
+  pub walked_all : {here : Option ℕ} {seen : Sighting} → Walked m hash e key here seen → here ≡ None → Sights (slots_of m) hash e key (chain_in (slots_of m) (bucket_of hash (length (slots_of m)))) seen
   walked_all {here} {seen} w is =
-      let whole : chain_of (slots_of m) (bucket_of hash (length (slots_of m))) ≡ w.passed = w.chain ∙ ap (λ l. w.passed ++ l) (none_left w.coming (sym is ∙ w.first)) ∙ append-nil w.passed in
+      let whole : chain_in (slots_of m) (bucket_of hash (length (slots_of m))) ≡ w.passed = w.chain ∙ ap (λ l. w.passed ++ l) (none_left w.coming (sym is ∙ w.first)) ∙ append-nil w.passed in
       subst (λ l. Sights (slots_of m) hash e key l seen) (sym whole) (all_seen (slots_of m) hash e key w.passed seen w.unkeyed w.ghosts)
 
 -- ---- the walk along a ring

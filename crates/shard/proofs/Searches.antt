@@ -8,7 +8,7 @@ use Rattle.model.specs.Calls as calls
 use Rattle.model.specs.Standing.{matches}
 use Rattle.ring_slab.specs.Places.{look, count}
 use Rattle.ring_slab.specs.Slots.{hashes}
-use Rattle.ring_slab.specs.Chains.{bucket_of, chain_of}
+use Rattle.ring_slab.specs.Chains.{bucket_of, chain_in}
 use Rattle.ring_slab.specs.declared.slots.Slot.{Slot}
 use Rattle.ring_slab.proofs.Counts.{one_at, one_off, count_append, split_at}
 use Rattle.ring_slab.proofs.Holding.{entered_is}
@@ -185,16 +185,16 @@ module _ {K V : Type 0} (s : List (Slot (Entry K V))) (hash : ℕ) where
 -- ---- the place that a key leads to
 module _ {K V : Type 0} (e : Keying K) (key : K) (hash : ℕ) (x : CacheShard K V) (w : Sound x []) where
   -- an entry under the hash stands in the chain of the hash
-  in_chain : (j : ℕ) (v : Entry K V) → entry_at x j ≡ Some v → hash_at x j ≡ hash → 1 ≤ count j (chain_of (slots x) (bucket_of hash (length (slots x))))
+  in_chain : (j : ℕ) (v : Entry K V) → entry_at x j ≡ Some v → hash_at x j ≡ hash → 1 ≤ count j (chain_in (slots x) (bucket_of hash (length (slots x))))
   in_chain j v is h =
       let u = entry_used w j v is in
-      omega (arith, places_once w j u.0, u.1, count_used j (places x []), entered_is w.laid.held j (omega arith), ap (λ n. count j (chain_of (slots x) (bucket_of n (length (slots x))))) h)
+      omega (arith, places_once w j u.0, u.1, count_used j (places x []), entered_is w.laid.held j (omega arith), ap (λ n. count j (chain_in (slots x) (bucket_of n (length (slots x))))) h)
 
-  nowhere : NoneOf (KeyedAt (slots x) hash e key) (chain_of (slots x) (bucket_of hash (length (slots x)))) → Nowhere (KeyedAt (slots x) hash e key)
+  nowhere : NoneOf (KeyedAt (slots x) hash e key) (chain_in (slots x) (bucket_of hash (length (slots x)))) → Nowhere (KeyedAt (slots x) hash e key)
   nowhere none j k = let v = keyed_some e key (entry_at x j) k.same in none j (in_chain j v.0 v.1 k.hashed) k
 
   -- the ghosts of the hash are those of the ring
-  ring_ghost : (j : ℕ) → 1 ≤ count j (ring_places Ghosts x) → hash_at x j ≡ hash → (1 ≤ count j (chain_of (slots x) (bucket_of hash (length (slots x))))) × GhostAt (slots x) hash j
+  ring_ghost : (j : ℕ) → 1 ≤ count j (ring_places Ghosts x) → hash_at x j ≡ hash → (1 ≤ count j (chain_in (slots x) (bucket_of hash (length (slots x))))) × GhostAt (slots x) hash j
   ring_ghost j there h =
       let is = kind_ghost (entry_at x j) (w.ranked.ghosts j there) in
       (in_chain j E.Ghost is h, record { hashed = h; ghost = ap ghostly is })
@@ -202,7 +202,7 @@ module _ {K V : Type 0} (e : Keying K) (key : K) (hash : ℕ) (x : CacheShard K 
   in_ghosts : (j : ℕ) → GhostAt (slots x) hash j → 1 ≤ count j (ring_places Ghosts x)
   in_ghosts j g = ring_by_kind w Ghosts j (ap kind_of (ghost_is (entry_at x j) g.ghost)) refl
 
-  pub leads_ghost : (at : ℕ) → Sights (slots x) hash e key (chain_of (slots x) (bucket_of hash (length (slots x)))) (S.Ghost at) → LeadsTo e key hash x (Some at)
+  pub leads_ghost : (at : ℕ) → Sights (slots x) hash e key (chain_in (slots x) (bucket_of hash (length (slots x)))) (S.Ghost at) → LeadsTo e key hash x (Some at)
   leads_ghost at q =
       inr (
         nowhere q.0,
@@ -214,10 +214,10 @@ module _ {K V : Type 0} (e : Keying K) (key : K) (hash : ℕ) (x : CacheShard K 
   leads None none is = (none, sym is)
   leads (Some at) none is = inr (none, sym is)
 
-  pub leads_ghosts : (r : Option ℕ) → Sights (slots x) hash e key (chain_of (slots x) (bucket_of hash (length (slots x)))) S.Ghosts → r ≡ first_with (slots x) hash (ring_places Ghosts x) → LeadsTo e key hash x r
+  pub leads_ghosts : (r : Option ℕ) → Sights (slots x) hash e key (chain_in (slots x) (bucket_of hash (length (slots x)))) S.Ghosts → r ≡ first_with (slots x) hash (ring_places Ghosts x) → LeadsTo e key hash x r
   leads_ghosts r q is = leads r (nowhere q.0) is
 
-  pub leads_nowhere : Sights (slots x) hash e key (chain_of (slots x) (bucket_of hash (length (slots x)))) S.Nothing → LeadsTo e key hash x None
+  pub leads_nowhere : Sights (slots x) hash e key (chain_in (slots x) (bucket_of hash (length (slots x)))) S.Nothing → LeadsTo e key hash x None
   leads_nowhere q = (nowhere q.0, first_none (slots x) hash (ring_places Ghosts x) (λ j there h. let r = ring_ghost j there h in q.1 j r.0 r.1))
 
   -- there is an entry at that place

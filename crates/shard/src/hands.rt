@@ -8,7 +8,7 @@ ghost use Rattle.ring_slab.specs.Holding.{SameLinks};
 ghost use Rattle.ring_slab.specs.Calls.{slots_of};
 ghost use Rattle.shard.specs.declared.entry.Entry.TheVariants as E;
 ghost use Rattle.shard.specs.declared.ring.RingName.TheVariants.{Hot, Cold};
-ghost use Rattle.shard.specs.Layout.{in_ring, kind_of, slots as slotsIn, entry_at, ring_places, Sound};
+ghost use Rattle.shard.specs.Layout.{in_ring, kind_of, slots as slots_in, entry_at, ring_places, Sound};
 ghost use Rattle.shard.specs.Steps.{FollowsHand, FollowsRings, NoMoreUsed, Falls};
 ghost use Rattle.shard.specs.Hands.{listed, worn, resident_of, Meets, halts, Lapped, SameShape, OnlyReads, WalksHot, Halted, TakesHot, Promotes, BoundsGhosts, leaves_cold, SameLengths, LetsGo};
 
@@ -329,7 +329,7 @@ impl<'a, K: Copy, V: Copy> CacheShard<'a, K, V> {
     // The place at which the cold hand stops.
     fn cold_stop<L: Lifecycle<K, V>>(&self, life: &L) -> Option<u32>
         requires { Sound self.now [] }
-        ensures { Halted (L.Lifecycle.life life.now).pins (ring_places Cold self.now) (slotsIn self.now) result }
+        ensures { Halted (L.Lifecycle.life life.now).pins (ring_places Cold self.now) (slots_in self.now) result }
     {
         match self.cold.head {
             None => None,

@@ -1,10 +1,10 @@
 // Records that come in.
-ghost use Rattle.std.specs.Prelude.{◌≡◌, ◌+◌, ◌^◌, ◌<◌, false, leb, [], ◌∷◌, length, if◌then◌else◌, Some, None, nat_le};
+ghost use Rattle.std.specs.Prelude.{◌≡◌, ◌+◌, ◌^◌, ◌<◌, false, [], ◌∷◌, length, if◌then◌else◌, Some, None, nat_le};
 ghost use Rattle.settings.specs.Standing.{limits};
 ghost use Rattle.model.specs.Calls as calls;
 ghost use Rattle.shard.specs.declared.entry.ResidentState.TheVariants.{Hot};
 ghost use Rattle.model.specs.Requests.{policy};
-ghost use Rattle.shard.specs.Layout.{slots as slotsIn, entry_at, Sound};
+ghost use Rattle.shard.specs.Layout.{slots as slots_in, entry_at, Sound};
 ghost use Rattle.shard.specs.Steps.{SameTerms};
 ghost use Rattle.shard.specs.Finds.{AtItsPlace};
 ghost use Rattle.shard.specs.Depicts.{Follows};
@@ -239,7 +239,7 @@ impl<'a, K: Copy, V: Copy> CacheShard<'a, K, V> {
     // The part that a record of this weight would enter.
     pub fn entry_state(&self, weight: u32, otherwise: ResidentState) -> ResidentState
         requires { Sound self.now [] }
-        ensures { result ≡ (if leb (self.now.tally.hot_weight + weight) (limits self.now.settings).target then Hot else otherwise) }
+        ensures { result ≡ (if nat_le (self.now.tally.hot_weight + weight) (limits self.now.settings).target then Hot else otherwise) }
     {
         let room = has_room(self.tally.hot_weight, weight, self.settings.hot_target());
         if room {
@@ -260,7 +260,7 @@ impl<'a, K: Copy, V: Copy> CacheShard<'a, K, V> {
         state: &mut L::State,
     )
         requires sound { Sound self.old [] }
-        requires slot { self.old.slab.used < length (slotsIn self.old) }
+        requires slot { self.old.slab.used < length (slots_in self.old) }
         requires weight { weight ≡ W.Weighter.weight w.now key value }
         ensures sound { Sound self.new [] }
         ensures terms { SameTerms self.old self.new }

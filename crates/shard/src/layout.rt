@@ -4,7 +4,7 @@ ghost use Rattle.std.specs.Prelude.{◌≡◌, ℕ, ◌<◌, ◌≤◌, [], ◌�
 ghost use Rattle.ring_slab.specs.Places.{count};
 ghost use Rattle.ring_slab.specs.Slots.{items, hashes};
 ghost use Rattle.ring_slab.specs.Calls.{set_if};
-ghost use Rattle.shard.specs.Layout.{slots, ring as ring_from, with_ring, in_ring, kind_of, entry_at, ring_places, Counted, Sound, SameEntries};
+ghost use Rattle.shard.specs.Layout.{slots, ring as head_and_length, with_ring, in_ring, kind_of, entry_at, ring_places, Counted, Sound, SameEntries};
 ghost use Rattle.shard.specs.Moves.{handed, Appends, TurnsOut, Deletes, Occupies, Overwrites, Releases};
 ghost use Rattle.shard.specs.Steps.{SameTerms};
 
@@ -16,7 +16,7 @@ use crate::ring::{Ring, RingName};
 impl<'a, K: Copy, V: Copy> CacheShard<'a, K, V> {
     // The ring of that name.
     pub fn ring(&self, name: RingName) -> Ring
-        ensures { result ≡ ring_from name self.now }
+        ensures { result ≡ head_and_length name self.now }
     {
         match name {
             RingName::Hot => self.hot,

@@ -5,7 +5,7 @@ ghost use Rattle.model.specs.Calls as calls;
 ghost use Rattle.model.specs.Requests.{policy};
 ghost use Rattle.ring_slab.specs.Slots.{items};
 ghost use Rattle.shard.specs.Tallies.{recounted};
-ghost use Rattle.shard.specs.Layout.{slots as slots_of};
+ghost use Rattle.shard.specs.Layout.{slots as slots_in};
 ghost use Rattle.shard.specs.Depicts.{Depicts, Follows, FollowsPlainly};
 ghost use Rattle.shard.specs.Replies.{pair_found, copy_found, taken};
 
@@ -88,14 +88,14 @@ impl<'a, K: Key, V: Copy> Cache<'a, K, V> {
 impl<'a, K: Copy, V: Copy> Cache<'a, K, V> {
     // How many hot residents, cold residents and ghosts there are, and what the hot and the cold ones weigh.
     pub fn counts(&self) -> Tally
-        ensures { result ≡ recounted (items (slots_of self.now.shard)) }
+        ensures { result ≡ recounted (items (slots_in self.now.shard)) }
     {
         self.shard.tally
     }
 
     // The same, counted anew over all slots.
     pub fn recount(&self) -> Tally
-        ensures { result ≡ recounted (items (slots_of self.now.shard)) }
+        ensures { result ≡ recounted (items (slots_in self.now.shard)) }
     {
         self.shard.recount()
     }

@@ -3,7 +3,7 @@ ghost use Rattle.std.specs.Prelude.{◌≡◌, ℕ, ◌<◌, ◌≤◌, [], leng
 ghost use Rattle.ring_slab.specs.Places.{look, count};
 ghost use Rattle.ring_slab.specs.Slots.{nexts, item_at};
 ghost use Rattle.ring_slab.specs.Rings.{walk};
-ghost use Rattle.ring_slab.specs.Chains.{bucket_of, chain_of};
+ghost use Rattle.ring_slab.specs.Chains.{bucket_of, chain_in};
 ghost use Rattle.ring_slab.specs.Calls.{slots_of};
 ghost use Rattle.shard.specs.Layout.{slots, ring_places, Sound};
 ghost use Rattle.shard.specs.declared.ring.RingName.TheVariants.{Ghosts};
@@ -52,7 +52,7 @@ fn sighted(seen: Sighting, at: u32) -> Sighting
 // Walks the chain of the hash's bucket, and stops at the key. A key is compared only where the hash is the same.
 fn look_up<K: Key, V: Copy>(slab: &LinkedSlab<'_, Entry<K, V>>, key: &K, hash: u64) -> Sighting
     requires { Kept slab.now }
-    ensures { Sights (slots_of slab.now) hash (record { same = K.Key.same; code = K.Key.code }) key.now (chain_of (slots_of slab.now) (bucket_of hash (length (slots_of slab.now)))) result }
+    ensures { Sights (slots_of slab.now) hash (record { same = K.Key.same; code = K.Key.code }) key.now (chain_in (slots_of slab.now) (bucket_of hash (length (slots_of slab.now)))) result }
 {
     let mut seen = Sighting::Nothing;
     let mut next = slab.first(hash);

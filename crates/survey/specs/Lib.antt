@@ -1,4 +1,4 @@
--- The definitions that the contracts cite.
+-- The definitions that the contracts cite, and the lemmas by which a text is a key (`Texts`).
 pub mod Codes
 pub mod Hashes
 pub mod Lengths

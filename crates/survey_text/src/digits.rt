@@ -1,7 +1,7 @@
 ghost use Rattle.std.specs.Prelude.{◌≡◌, ◌^◌, ◌≤◌, false, IfOk};
 ghost use Rattle.std.specs.Float.{binary64};
 ghost use Rattle.std.specs.Float.Ieee.{round};
-ghost use Rattle.survey_text.specs.Digits.{read_digit, read_on, number as number_of_lem, fraction as fraction-of, share as share-of, most_digits};
+ghost use Rattle.survey_text.specs.Digits.{read_digit, read_on, number as number_of_lem, fraction as fraction_of, share as share_of, most_digits};
 
 use crate::words::{Class, behind, front};
 use std::num::nearest_u64_to_f64;
@@ -72,7 +72,7 @@ pub(crate) fn number(word: &[u8], most: u64) -> Result<u64, Unreadable>
 // The decimal number that the word writes, as the float nearest to it: 1 to 15 digits, with or without a
 // point.
 pub(crate) fn share(word: &[u8]) -> Option<f64>
-    ensures { result ≡ share-of word.now }
+    ensures { result ≡ share_of word.now }
 {
     let whole = front(Class::Whole, word);
     let fraction = fraction(word);
@@ -88,7 +88,7 @@ pub(crate) fn share(word: &[u8]) -> Option<f64>
 
 // The digits behind the decimal point.
 fn fraction(word: &[u8]) -> &[u8]
-    ensures { result.now ≡ fraction-of word.now }
+    ensures { result.now ≡ fraction_of word.now }
 {
     let point = behind(Class::Whole, word);
     if point.len() == 0 { point } else { &point[1..] }

@@ -1,6 +1,6 @@
 ghost use Rattle.std.specs.Prelude.{◌≡◌, ◌≤◌, true, false, length, take, drop, IfOk, MatchOption};
 ghost use Rattle.std.specs.Str.{bytes_eq};
-ghost use Rattle.survey_text.specs.Statements.{answered, numbered, quantity as quantity-of, portion as portion-of, marked as mark_of, at_end, box_line, length_line, statement as statement-of};
+ghost use Rattle.survey_text.specs.Statements.{answered, numbered, quantity as quantity_of, portion as portion_of, marked as mark_of, at_end, box_line, length_line, statement as statement_of};
 
 use crate::digits::{Unreadable, number, share};
 use crate::faults::{Fault, Field};
@@ -69,7 +69,7 @@ fn value<'a>(word: &'a [u8], name: &[u8]) -> Option<&'a [u8]>
 
 // A whole number behind its name.
 fn quantity(name: &[u8], field: Field, word: &[u8]) -> Result<u64, Fault>
-    ensures { result ≡ quantity-of name.now field word.now }
+    ensures { result ≡ quantity_of name.now field word.now }
 {
     if word.len() == 0 {
         return Err(Fault::Missing(field));
@@ -86,7 +86,7 @@ fn quantity(name: &[u8], field: Field, word: &[u8]) -> Result<u64, Fault>
 
 // A share behind its name.
 fn portion(name: &[u8], field: Field, word: &[u8]) -> Result<f64, Fault>
-    ensures { result ≡ portion-of name.now field word.now }
+    ensures { result ≡ portion_of name.now field word.now }
 {
     if word.len() == 0 {
         return Err(Fault::Missing(field));
@@ -152,7 +152,7 @@ fn record(text: &[u8]) -> Result<Statement, Fault>
 
 // What the line says. `overlong` says that it is only the beginning of a line.
 pub(crate) fn read_line(line: &[u8], overlong: bool) -> Result<Statement, Fault>
-    ensures { answered result ≡ statement-of overlong line.now }
+    ensures { answered result ≡ statement_of overlong line.now }
 {
     let text = content(line);
     if overlong && text.len() == line.len() {

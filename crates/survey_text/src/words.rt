@@ -1,6 +1,6 @@
 ghost use Rattle.std.specs.Prelude.{◌≡◌, ◌≤◌, length};
-ghost use Rattle.std.specs.List.{prefix_len as longest-front};
-ghost use Rattle.survey_text.specs.Words.{belongs, front as front_of, behind as behind-of, content as uncommented, first_word, after_word};
+ghost use Rattle.std.specs.List.{prefix_len as longest_front};
+ghost use Rattle.survey_text.specs.Words.{belongs, front as front_of, behind as behind_of, content as uncommented, first_word, after_word};
 
 // A class of bytes.
 #[derive(Clone, Copy)]
@@ -30,7 +30,7 @@ impl Class {
 
     // How many bytes of this class the text begins with.
     fn leading(self, text: &[u8]) -> usize
-        ensures value { result ≡ longest-front (belongs self) text.now }
+        ensures value { result ≡ longest_front (belongs self) text.now }
         ensures within { result ≤ length text.now }
     {
         'bytes: for i in 0..text.len() {
@@ -51,7 +51,7 @@ pub(crate) fn front(class: Class, text: &[u8]) -> &[u8]
 
 // What follows them.
 pub(crate) fn behind(class: Class, text: &[u8]) -> &[u8]
-    ensures { result.now ≡ behind-of class text.now }
+    ensures { result.now ≡ behind_of class text.now }
 {
     &text[class.leading(text)..]
 }

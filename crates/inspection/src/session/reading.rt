@@ -1,8 +1,8 @@
 ghost use Rattle.std.specs.Prelude.{◌≡◌};
 ghost use Rattle.std.specs.List.{slice_get};
 ghost use Rattle.std.specs.Option.{option_map};
-ghost use Rattle.survey.specs.WritingBack.{standing as standing-rows};
-ghost use Rattle.inspection.specs.Refused.{standing as standing-lines};
+ghost use Rattle.survey.specs.WritingBack.{standing as standing_rows};
+ghost use Rattle.inspection.specs.Refused.{standing as standing_lines};
 ghost use Rattle.inspection.specs.Sessions.{state};
 
 use super::Session;
@@ -37,7 +37,7 @@ impl Session {
 
     // The refused line number `i`, counted from 0; none if fewer were refused, and from 32 on.
     pub fn refused_line(&self, i: usize) -> Option<RefusedLine>
-        ensures { result ≡ slice_get (standing-lines (state self.now).refused) i }
+        ensures { result ≡ slice_get (standing_lines (state self.now).refused) i }
     {
         self.refused.get(i)
     }
@@ -51,7 +51,7 @@ impl Session {
 
     // The corrected record number `i`, counted from 0; none if there are fewer, and from 256 on.
     pub fn row(&self, i: usize) -> Option<Row>
-        ensures { result ≡ slice_get (standing-rows (state self.now).rows) i }
+        ensures { result ≡ slice_get (standing_rows (state self.now).rows) i }
     {
         self.rows.row(i)
     }

@@ -1,7 +1,7 @@
 use Rattle.std.proofs.Common.{◌≡◌, ◌<◌, ◌≤◌, ◌∷◌, ◌++◌, length, set, sym, refl, ap, ◌∙◌, subst, arith}
 use Rattle.ring_slab.specs.Places.{look}
 use Rattle.ring_slab.specs.Slots.{buckets, chains, hashes}
-use Rattle.ring_slab.specs.Chains.{bucket_of, chain_from, chain_of, home_of}
+use Rattle.ring_slab.specs.Chains.{bucket_of, chain_from, chain_in, home_of}
 use Rattle.ring_slab.proofs.Chains.{bucket_below}
 use Rattle.ring_slab.proofs.Tables.{left_first, left_later}
 use Rattle.ring_slab.proofs.chain.leave.Goals as goal
@@ -47,7 +47,7 @@ returns-else-head-at g c =
     let home : c.bucket_of-bucket.result ≡ b = c.bucket_of-bucket.ensures ∙ ap (λ x. bucket_of x (length s)) c.hash_of-hash.ensures in
     let head : c.bucket_head-head.result ≡ look (buckets s) b = c.bucket_head-head.ensures ∙ ap (λ i. look (buckets s) i) home in
     let len : length s' ≡ length s = omega arith in
-    let was : chain_of s b ≡ q.before ++ p ∷ at ∷ q.after = ap (λ i. chain_from s i) (sym head) ∙ q.split in
+    let was : chain_in s b ≡ q.before ++ p ∷ at ∷ q.after = ap (λ i. chain_from s i) (sym head) ∙ q.split in
     let cs : chains s' ≡ set (chains s) p (look (chains s) at) = e.chains ∙ ap (λ v. set (chains s) p v) c.chain_of-next.ensures in
     record {
       chain = left_later s s' b at len p q.before q.after c.requires.chained.ends was q.place e.buckets cs;
