@@ -13,6 +13,7 @@ import os
 import re
 import sys
 
+# the repository's crates, under the names that they had before the move
 OWN = r"Rattle\.(?:interface|settings|survey|slab|slab_tests|model|shard|survey_text|inspection|van)\."
 DECLARED = re.compile(r"^ *((?:(?:pub|abbrev|unfoldable|data|record) )*)([^\s:{}()=.]+(?: [^\s:{}()=.]+)*)((?: [({][^=\n]*)?) :(?: (.*))?$", re.M)
 TOKEN = re.compile(r"[^\s(){}\[\].,;|λ=\"`]+")
