@@ -5,7 +5,8 @@ toolchain spells its own: words in snake case, types and modules in upper camel 
 usage: python3 tools/rename_words.py [--dry]        at the top of the repository, once, after the upgrade scripts of the toolchain
 
 A name is the repository's own where a file of specs/ or proofs/ declares or binds it. Names that the toolchain makes (goals, steps,
-branches), names of its library and names of src/ stay. It prints each new name, and stops where two names would fall together.
+branches), names of its library and names of src/ stay, but for those under which contracts import a word (`ghost use .. as`).
+It prints each new name, and stops where two names would fall together.
 """
 
 import collections
@@ -24,7 +25,7 @@ CHOSEN = {"ringOf": "ring_from", "chainOf": "chain_in", "count-in": "count_under
 # a field or a local name beside a field of src/ with that name, never in one scope
 APART = {"hot-weight", "cold-weight"}
 # made by the toolchain: a branch of the code, an arm of a match
-MADE = re.compile(r"^(?:then|else)-|^in-[A-Z]|^overflow[-_]|^bounds-|^offset[-_]bounds-|-requires")
+MADE = re.compile(r"^(?:then|else)-|^in-[A-Z]|^overflow[-_]|^offset[-_]bounds-|-requires")
 
 
 def texts(kinds):

@@ -1,13 +1,10 @@
 -- Settings are sound as they are made, and stay so under every list of new capacities.
 use Rattle.std.proofs.Common.{◌≡◌, ℕ, ◌≤◌, Bool, true, false, cond, ◌&&◌, eqb, ltb, [], ◌∷◌, Ok, Err, refl, subst, arith}
 use lib.Ieee.{Float}
-use Rattle.std.proofs.lemmas.Bool.Decides.{nat_tests}
+use Rattle.std.proofs.lemmas.Bool.{ltb-false}
 use Rattle.interface.specs.declared.refusal.Refusal.TheVariants.{CapacityTooLarge, TooManyItems, AllocationOutOfRange, GhostBoundTooLarge}
 use Rattle.settings.proofs.Shares.{scaled_le}
 use Rattle.settings.specs.Rules.{Limits, Sound, StaysSound, standing, set_up, fresh, from_none, in_proportion, resized, rescaled, scaled, target_of, ratio, within_share, default_hot, most_weight, most_items}
-
-ltb-false : (a b : ℕ) → ltb a b ≡ false → b ≤ a
-ltb-false a b h = grind (arith, nat_tests)
 
 -- a target of any allocation
 target_sound : (c bound : ℕ) (a : Float) → c ≤ most_weight → bound ≤ most_weight → Sound (record { capacity = c; target = target_of c a; bound = bound })

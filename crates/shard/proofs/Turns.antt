@@ -99,8 +99,8 @@ module _ {K V : Type 0} where
   ghosts_long : (e : Keying K) (x : CacheShard K V) (p : Places) (t : model.Rings K V) (ps : List (model.Placeholder K)) → Shows e x p t ps → length t.ghosts ≡ x.ghosts.len
   ghosts_long e x p t ps s = ap length (sym s.ghosts) ∙ length_mapped (hash_at x) p.ghosts ∙ sym s.stands.laid.ghosts.len
 
-  pub bounds-none : (x : CacheShard K V) → x.ghosts.len ≤ (limits x.settings).bound → BoundedGhosts x x
-  bounds-none x few =
+  pub bounds_none : (x : CacheShard K V) → x.ghosts.len ≤ (limits x.settings).bound → BoundedGhosts x x
+  bounds_none x few =
       record {
         used = record { terms = record { settings = refl; issued = refl; size = refl }; used = omega arith };
         lengths = record { hot = refl; cold = refl };
@@ -112,8 +112,8 @@ module _ {K V : Type 0} where
     rest_of : (p : Places) → Stands x p → (rest : List ℕ) × (p.ghosts ≡ at ∷ rest)
     rest_of p w = head_is at p.ghosts (sym head ∙ w.laid.ghosts.head)
 
-    pub bounds-more : (limits x.settings).bound < x.ghosts.len → TurnsOut Ghosts at x x₁ → SameEntries x x₁ → Releases at x₁ x₂ → items (slots x₂) ≡ set (items (slots x₁)) at None → hashes (slots x₂) ≡ hashes (slots x₁) → SameTerms x₁ x₂ → BoundedGhosts x x₂
-    bounds-more many out kept rl set_items hs terms =
+    pub bounds_more : (limits x.settings).bound < x.ghosts.len → TurnsOut Ghosts at x x₁ → SameEntries x x₁ → Releases at x₁ x₂ → items (slots x₂) ≡ set (items (slots x₁)) at None → hashes (slots x₂) ≡ hashes (slots x₁) → SameTerms x₁ x₂ → BoundedGhosts x x₂
+    bounds_more many out kept rl set_items hs terms =
         let p = places x [] in
         let q = rest_of p sound in
         let w₁ = out p [] q.0 sound refl q.1 in
