@@ -6,12 +6,12 @@
 ghost use Rattle.std.specs.Prelude.{◌≡◌, ℕ, Bool, true, ◌||◌};
 ghost use Rattle.interface.specs.Meaning.{Life, idle};
 
-pub mod numbers;
 pub mod refusal;
 #[cfg(test)]
 mod tests;
 
-// A key. Equality is an equivalence, and equal keys have equal hashes.
+// A key. Equality is an equivalence, and equal keys have equal hashes. Not `Eq` and `Hash`: keys may be equal in
+// another way than the values of their type, and the hash is one number of 64 bits.
 pub trait Key: Copy {
     // whether two keys are equal
     ghost same: { Self → Self → Bool };
@@ -102,14 +102,10 @@ pub struct Hold<K, L> {
 impl<K: Key, V, L: Lifecycle<K, V>> Lifecycle<K, V> for Hold<K, L> {
     type State = L::State;
 
-    ghost life = { λ h. record { pins = λ k v. K.Key.same h.key k || (L.Lifecycle.life h.inner).pins k v; trim = (L.Lifecycle.life h.inner).trim; hot = (L.Lifecycle.life h.inner).hot; cold = (L.Lifecycle.life h.inner).cold } };
+    ghost life = { λ h. record (L.life h.inner) { pins = λ k v. K.same h.key k || (L.life h.inner).pins k v } };
 
     fn is_pinned(&self, key: &K, val: &V) -> bool {
-        if self.key.equal(key) {
-            true
-        } else {
-            self.inner.is_pinned(key, val)
-        }
+        self.key.equal(key) || self.inner.is_pinned(key, val)
     }
 
     fn before_evict(&self, state: &mut L::State, key: &K, val: V) -> V {

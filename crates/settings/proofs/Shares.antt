@@ -6,6 +6,8 @@ use lib.Ieee.Exact.{HasValue}
 use lib.Ieee.Back.{round_whole}
 use lib.Ieee.Nearest.{div_mono}
 use lib.Ieee.Order.{round_mono}
+use Rattle.std.proofs.lemmas.Bool.{and_parts}
+use Rattle.std.proofs.lemmas.Float.{T_from_true}
 use Rattle.settings.specs.Rules.{scaled, within_share}
 
 -- a ≤ b of a test for less or equal
@@ -16,11 +18,6 @@ either a b c h = go (ltb a b) (eqb a b) (ltb→lt a b) (eqb→eq a b) h
     go true y less same t = let l : a < b = less tt in omega arith
     go false true less same t = le_of_eq (same tt)
     go false false less same t = absurd t
-
-right : (p q : Bool) → (p && q) ≡ true → T q
-right true true h = tt
-right true false h = absurd (true≢false (sym h))
-right false q h = absurd (true≢false (sym h))
 
 -- what is at most the whole number n is at most n with its fraction dropped
 cut_le : (w : ℕ) (x y : Float) (n : ℕ) → T (le y x) → HasValue x false n 1 → to_unsigned w y ≤ n
@@ -83,7 +80,7 @@ share_le n (fin false m i) (fin false k d) e v s =
     (subst (λ (y : Float). HasValue y false n 1) (sym e) v)
   where
     at_most_one : within_share (fin false k d) ≡ true → T (le (fin false k d) (fin false 1 (pos 0)))
-    at_most_one h = right (le (fin false 0 (pos 0)) (fin false k d)) (le (fin false k d) (fin false 1 (pos 0))) h
+    at_most_one h = T_from_true _ (and_parts (le (fin false 0 (pos 0)) (fin false k d)) (le (fin false k d) (fin false 1 (pos 0))) h).1
 
 pub scaled_le : (n : ℕ) (a : Float) → n ≤ 2 ^ 53 → within_share a ≡ true → scaled n a ≤ n
 unfolding of_int

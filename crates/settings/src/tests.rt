@@ -6,10 +6,7 @@ use std::test::Fail;
 
 // Capacity, hot target and ghost bound.
 fn limits(settings: Result<Settings, Refusal>) -> Result<(u64, u64, u64), Refusal> {
-    match settings {
-        Ok(s) => Ok((s.capacity(), s.hot_target(), s.ghost_bound())),
-        Err(refusal) => Err(refusal),
-    }
+    settings.map(|s| (s.capacity(), s.hot_target(), s.ghost_bound()))
 }
 
 // The limits at the default allocations.

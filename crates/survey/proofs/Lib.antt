@@ -1,4 +1,3 @@
 -- The lemmas that several proofs share.
 pub mod Gathering
-pub mod Records
 pub mod Table

@@ -1,5 +1,5 @@
--- The hashes of the two kinds of key, and when two texts are equal.
-use Rattle.std.specs.Prelude.{ℕ, ◌*◌, ◌%◌, ◌^◌, Bool, true, false, ◌&&◌, List, [], ◌∷◌, fold, ◌==◌, bit_xor}
+-- The hashes of the two kinds of key.
+use Rattle.std.specs.Prelude.{ℕ, ◌*◌, ◌%◌, ◌^◌, List, fold, bit_xor}
 
 -- a number times 2^64 over the golden ratio, modulo 2^64
 abbrev pub multiplied : ℕ → ℕ
@@ -12,10 +12,3 @@ mixed h b = (bit_xor h b * 0x100_0000_01b3) % 2 ^ 64
 -- FNV-1a of 64 bits: from the offset basis over the bytes in their order
 abbrev pub fnv1a : List ℕ → ℕ
 fnv1a bytes = fold mixed 0xcbf2_9ce4_8422_2325 bytes
-
--- equal texts: as many bytes, and the same at each place
-abbrev pub same_text : List ℕ → List ℕ → Bool
-same_text [] [] = true
-same_text [] (y ∷ ys) = false
-same_text (x ∷ xs) [] = false
-same_text (x ∷ xs) (y ∷ ys) = x == y && same_text xs ys

@@ -1,5 +1,5 @@
 -- The record of a pipe length: its range, and what is read off it.
-use Rattle.std.specs.Prelude.{◌≡◌, ℕ, ◌≤◌, Bool, ◌&&◌, nat_le}
+use Rattle.std.specs.Prelude.{◌≡◌, ℕ, Bool, ◌&&◌, nat_le}
 use Rattle.std.proofs.Common.{zero-le}
 use Rattle.survey.specs.declared.length.Length.{Length}
 

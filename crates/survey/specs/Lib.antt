@@ -1,7 +1,8 @@
--- The definitions that the contracts cite, and the lemmas by which a text is a key (`Texts`).
+-- The definitions that the contracts cite.
 pub mod Codes
+pub mod FirstRows
 pub mod Hashes
 pub mod Lengths
+pub mod Printed
 pub mod Weights
 pub mod WritingBack
-pub mod Texts

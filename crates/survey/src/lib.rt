@@ -5,6 +5,7 @@
 #![tactic(auto)]
 
 pub mod code;
+pub mod first_rows;
 pub mod keys;
 pub mod length;
 #[cfg(test)]

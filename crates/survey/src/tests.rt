@@ -48,10 +48,7 @@ fn the_range_of_a_text(rt: HostRuntime) -> Result<(), Fail> {
 }
 
 fn hash_of(text: &[u8]) -> u64 {
-    match Code::new(text) {
-        Some(code) => code.hash(),
-        None => 0,
-    }
+    Code::new(text).map_or(0, |code| code.hash())
 }
 
 #[test]
@@ -64,10 +61,10 @@ fn published_hashes(rt: HostRuntime) {
 }
 
 fn weight_at(step: u32) -> u32 {
-    match Length::new(0, 3, step, false) {
-        Some(length) => LengthWeighter.weigh(&LengthNumber(1), &length),
-        None => 0,
-    }
+    Length::new(0, 3, step, false).map_or(
+        0,
+        |length| LengthWeighter.weigh(&LengthNumber(1), &length),
+    )
 }
 
 #[test]
@@ -83,7 +80,7 @@ fn rows_and_count_at_their_limit(rt: HostRuntime) -> Result<(), Fail> {
     let changed = Length::new(5, 1, 0, true).ok_or(())?;
     let unchanged = Length::new(5, 1, 0, false).ok_or(())?;
     let mut buffer = WriteBackBuffer::new();
-    'fill: for i in 0..255u32 {
+    for i in 0..255u32 {
         WriteBack.on_evict_hot(&mut buffer, LengthNumber(i), changed);
         WriteBack.on_evict_cold(&mut buffer, LengthNumber(i), unchanged);
     }

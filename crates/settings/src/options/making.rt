@@ -11,7 +11,7 @@ use std::num::{nearest_u64_to_f64, saturating_f64_to_u64};
 fn is_share(allocation: f64) -> bool
     ensures { result ≡ within_share allocation }
 {
-    0.0 <= allocation && allocation <= 1.0
+    (0.0..=1.0).contains(&allocation)
 }
 
 // `n` times `share`, the fraction dropped.
@@ -25,7 +25,7 @@ fn scaled(n: u64, share: f64) -> u64
 fn target(capacity: u64, share: f64) -> u64
     ensures { result ≡ target_of capacity share }
 {
-    scaled(capacity, share).max(capacity.min(1)).min(capacity)
+    scaled(capacity, share).clamp(capacity.min(1), capacity)
 }
 
 fn ratio(part: u64, whole: u64) -> f64
@@ -38,6 +38,7 @@ impl Settings {
     // Settings for a capacity, a number of items to expect, and the two allocations. A capacity above
     // `MAX_CAPACITY` is refused, then more than `MAX_ITEMS` items, then an allocation that is not within
     // 0 to 1.
+    #[tactic(auto, using(crate::proofs::Worked::worked))]
     pub fn new(
         capacity: u64,
         items: u64,

@@ -14,9 +14,7 @@ impl Code {
             return None;
         }
         let mut bytes = [0; 8];
-        'copy: for i in 0..len {
-            bytes[i] = text[i];
-        }
+        bytes[..len].copy_from_slice(text);
         Some(Code {
             bytes,
             len: len as u8,
@@ -34,6 +32,6 @@ impl Code {
     pub fn as_bytes(&self) -> &[u8]
         ensures { result.now ≡ text_of self.now }
     {
-        &self.bytes[0..self.len as usize]
+        &self.bytes[..self.len as usize]
     }
 }

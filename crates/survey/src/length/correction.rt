@@ -15,19 +15,13 @@ impl Length {
     }
 
     // The record with one observation struck out; none where there is none.
-    pub fn strike(self) -> Option<Length>
+    pub fn strike(mut self) -> Option<Length>
         ensures made { is_some result ≡ nat_lt 0 self.observations }
         ensures values { IfSome result (λ l. Reads l self.place (self.observations - 1) self.step true) }
     {
-        if self.observations == 0 {
-            return None;
-        }
-        Length::new(
-            self.place,
-            self.observations as u32 - 1,
-            self.step as u32,
-            true,
-        )
+        self.observations = self.observations.checked_sub(1)?;
+        self.changed = true;
+        Some(self)
     }
 
     // The record with the picture at this step; none above 15.
@@ -39,15 +33,11 @@ impl Length {
     }
 
     // The record without its picture; a trim is no correction, so the mark stays as it is.
-    pub fn trimmed(self) -> Length
+    pub fn trimmed(mut self) -> Length
         ensures value { result ≡ trim self }
         ensures lighter { length_weight result ≤ length_weight self }
     {
-        Length {
-            place: self.place,
-            observations: self.observations,
-            step: 0,
-            changed: self.changed,
-        }
+        self.step = 0;
+        self
     }
 }

@@ -3,7 +3,6 @@ use lib.Ieee.{Float}
 use Rattle.settings.specs.Rules.{scaled, within_share, most_items}
 use Rattle.settings.proofs.Shares.{scaled_le}
 use Rattle.settings.proofs.Soundness.{stays_sound}
-use Rattle.settings.proofs.Worked.{worked}
 use Rattle.settings.proofs.options.Settings.new.Goals as goal
 
 -- the ghost bound is at most the items
@@ -12,19 +11,13 @@ few items bound a is share less =
     let small : items ≤ 2 ^ 53 = omega arith in
     omega (arith, scaled_le items a small share)
 
-pub invariant_of-result : goal.invariant_of-result
-invariant_of-result c =
+pub invariant_of-result-clause-bounded : goal.invariant_of-result-clause-bounded
+invariant_of-result-clause-bounded c =
     let least = few c.args.items c.scaled-ghost_bound.result c.args.ghost_allocation c.scaled-ghost_bound.ensures (cc) c.if-items-gt-MAX_ITEMS.false in
-    record { reaches_one = search rules; within = search rules; exact = search rules; bounded = omega (arith, least) }
+    omega (arith, least)
 
-pub returns-then-capacity-gt-MAX_CAPACITY : goal.returns-then-capacity-gt-MAX_CAPACITY
-returns-then-capacity-gt-MAX_CAPACITY c = record { value = search rules; sound = tt; few = tt; worked = worked }
+pub returns-clause-sound : goal.returns-clause-sound
+returns-clause-sound c = stays_sound _ (search rules)
 
-pub returns-then-items-gt-MAX_ITEMS : goal.returns-then-items-gt-MAX_ITEMS
-returns-then-items-gt-MAX_ITEMS c = record { value = search rules; sound = tt; few = tt; worked = worked }
-
-pub returns-then-not-is_share : goal.returns-then-not-is_share
-returns-then-not-is_share c = record { value = search rules; sound = tt; few = tt; worked = worked }
-
-pub returns : goal.returns
-returns c = record { value = search rules; sound = stays_sound _ (search rules); few = few _ _ _ c.scaled-ghost_bound.ensures (cc) c.if-items-gt-MAX_ITEMS.false; worked = worked }
+pub returns-clause-few : goal.returns-clause-few
+returns-clause-few c = few _ _ _ c.scaled-ghost_bound.ensures (cc) c.if-items-gt-MAX_ITEMS.false
