@@ -1,8 +1,8 @@
 -- The laws of chains.
-use Rattle.std.proofs.Common.{◌≡◌, ℕ, zero, suc, ◌+◌, ◌*◌, ◌/◌, ◌%◌, ◌^◌, ◌<◌, ◌≤◌, ltb, List, [], ◌∷◌, ◌++◌, length, Some, sym, refl, ap, ◌∙◌, subst, ⊎_elim, mod-lt, mul_comm, mul-lt-mul_of_pos_right, arith, lit<}
+use Rattle.std.proofs.Common.{◌≡◌, ℕ, zero, suc, ◌+◌, ◌*◌, ◌/◌, ◌%◌, ◌^◌, ◌==◌, ◌<◌, ◌≤◌, ltb, List, [], ◌∷◌, ◌++◌, length, Some, sym, refl, ap, ◌∙◌, subst, ⊎_elim, mod-lt, mul_comm, mul-lt-mul_of_pos_right, arith, lit<}
 use Rattle.std.proofs.lemmas.Nat.{div_below}
-use Rattle.std.proofs.lemmas.List.{append_assoc}
-use Rattle.std.proofs.lemmas.Bool.{lt-ltb, le-ltb, cond-true, cond-false, cases_eq, cases_lt}
+use Rattle.std.proofs.lemmas.Bool.{lt-ltb, le-ltb, eq-eqb, ne_eqb, cond-true, cond-false, cases_eq, cases_lt}
+use Rattle.std.specs.List.{find}
 use Rattle.ring_slab.specs.Places.{count, head_of, behind_first, upto}
 use Rattle.ring_slab.specs.Chains.{Chain, follow, chain, Ends, bucket_of}
 use Rattle.ring_slab.proofs.Counts.{count_head, count_append, one_at, one_off, apart, placed_length}
@@ -139,40 +139,14 @@ pub chain_upto : (n : ℕ → ℕ) (e i m : ℕ) → ((k : ℕ) → k < e → n 
 chain_upto n e i zero to is = omega arith
 chain_upto n e i (suc m) to is = (refl, subst (λ z. Chain n e z (upto (i + 1) m)) (sym (to i (omega arith))) (chain_upto n e (i + 1) m to (omega arith)))
 
--- ---- a walk to the place before `old`
+-- ---- the place before `old`
 module _ (n : ℕ → ℕ) (e : ℕ) where
-  -- the walk stands at p, and has `old` before it
-  pub record Before (i old p : ℕ) : Type 0 where
-    pub ends : Ends n e p
-    pub other : p ≡ old → ⊥
-    pub there : 1 ≤ count old (chain n e p)
-    pub passed : List ℕ
-    pub split : chain n e i ≡ passed ++ chain n e p
-    pub place : p < e
-
-  pub before_none : (i old : ℕ) → Ends n e i → (i ≡ old → ⊥) → 1 ≤ count old (chain n e i) → Before i old i
-  before_none i old w ne h = record { ends = w; other = ne; there = h; passed = []; split = refl; place = inside n e i old h }
-
-  pub before_more : (i old p : ℕ) → Before i old p → (n p ≡ old → ⊥) → Before i old (n p)
-  before_more i old p w ne =
-      let q = step n e p w.ends w.place in
-      let there : 1 ≤ count old (chain n e (n p)) = omega (arith, w.there, ap (λ l. count old l) q.0, one_off old p (λ z. w.other (sym z))) in
-      record {
-        ends = q.1;
-        other = ne;
-        there = there;
-        passed = w.passed ++ p ∷ [];
-        split = w.split ∙ ap (λ l. w.passed ++ l) q.0 ∙ sym (append_assoc w.passed (p ∷ []) (chain n e (n p)));
-        place = inside n e (n p) old there;
-      }
-
-  pub before_less : (i old p : ℕ) → Before i old p → length (chain n e (n p)) < length (chain n e p)
-  before_less i old p w = omega (arith, ap length (step n e p w.ends w.place).0)
-
-  pub before_all : (i old p : ℕ) (w : Before i old p) → n p ≡ old → chain n e i ≡ w.passed ++ p ∷ old ∷ chain n e (n old)
-  before_all i old p w is =
-      let q = step n e p w.ends w.place in
-      let eo : Ends n e old = subst (λ z. Ends n e z) is q.1 in
-      let co : 1 ≤ count old (chain n e old) = omega (arith, w.there, ap (λ l. count old l) q.0, one_off old p (λ z. w.other (sym z)), ap (λ z. count old (chain n e z)) is) in
-      let r = step n e old eo (inside n e old old co) in
-      w.split ∙ ap (λ l. w.passed ++ l) (q.0 ∙ ap (λ z. p ∷ chain n e z) is ∙ ap (λ l. p ∷ l) r.0)
+  pub found_before : (i old : ℕ) (xs : List ℕ) → Chain n e i xs → (i ≡ old → ⊥) → 1 ≤ count old xs → (p : ℕ) × (a : List ℕ) × (b : List ℕ) × (find (λ k. n k == old) xs ≡ Some p) × (xs ≡ a ++ p ∷ old ∷ b)
+  found_before i old [] c ne h = absurd (omega arith)
+  found_before i old (x ∷ []) c ne h = absurd (omega (arith, one_off old x (λ z. ne (c.0 ∙ sym z))))
+  found_before i old (x ∷ y ∷ ys) c ne h =
+      ⊎_elim
+      (λ is. (x, [], ys, cond-true _ (Some x) _ (eq-eqb (n x) old is), ap (λ z. x ∷ z ∷ ys) (sym c.1.0 ∙ is)))
+      (λ no. let q = found_before (n x) old (y ∷ ys) c.1 no (omega (arith, one_off old x (λ z. ne (c.0 ∙ sym z)))) in
+      (q.0, x ∷ q.1, q.2, cond-false _ (Some x) _ (ne_eqb (n x) old no) ∙ q.3, ap (λ l. x ∷ l) q.4))
+      (cases_eq (n x) old)

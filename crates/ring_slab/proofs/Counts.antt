@@ -1,8 +1,9 @@
 -- Counts of places in lists, and how many places a list of distinct ones can have.
-use Rattle.std.proofs.Common.{◌≡◌, ℕ, zero, suc, ◌+◌, ◌<◌, ◌≤◌, List, [], ◌∷◌, ◌++◌, length, sym, refl, ap, ◌∙◌, ⊎_elim, arith}
+use Rattle.std.proofs.Common.{◌≡◌, ℕ, zero, suc, ◌+◌, ◌<◌, ◌≤◌, List, [], ◌∷◌, ◌++◌, length, get_or, sym, refl, ap, ◌∙◌, ⊎_elim, arith}
 use Rattle.std.proofs.lemmas.List.{length-append}
 use Rattle.std.proofs.lemmas.Bool.{eq-eqb, ne_eqb, cond-true, cond-false, cases_eq, cases_lt}
-use Rattle.ring_slab.specs.Places.{one, count, count_in, lengths, behind_first, without}
+use Rattle.std.specs.List.{concat}
+use Rattle.ring_slab.specs.Places.{one, count, count_in, lengths, behind_first, without, Below}
 
 pub one_at : (k x : ℕ) → k ≡ x → one k x ≡ 1
 unfolding one
@@ -18,6 +19,12 @@ count_append k (x ∷ xs) ys = omega (arith, count_append k xs ys)
 
 pub count_head : (x : ℕ) (xs : List ℕ) → 1 ≤ count x (x ∷ xs)
 count_head x xs = omega (arith, one_at x x refl)
+
+-- what stands in a list is below what bounds the list
+pub below_at : (n : ℕ) (xs : List ℕ) (k d : ℕ) → Below n xs → k < length xs → get_or xs k d < n
+below_at n [] k d b h = absurd (omega arith)
+below_at n (x ∷ xs) zero d b h = b x (count_head x xs)
+below_at n (x ∷ xs) (suc k) d b h = below_at n xs k d (λ j l. b j (omega arith)) (omega arith)
 
 -- what is in a list and what is not differ
 pub apart : (k x : ℕ) (xs : List ℕ) → count k xs ≡ 0 → 1 ≤ count x xs → k ≡ x → ⊥
@@ -102,20 +109,16 @@ filled_length : (xs : List ℕ) (m : ℕ) → ((k : ℕ) → k < m → count k x
 filled_length xs m all within = sym (sum_count xs m within) ∙ sum_all (λ k. count k xs) m all
 
 -- ---- several lists as one
-abbrev joined : List (List ℕ) → List ℕ
-joined [] = []
-joined (xs ∷ xss) = xs ++ joined xss
+count_concat : (k : ℕ) (xss : List (List ℕ)) → count k (concat xss) ≡ count_in k xss
+count_concat k [] = refl
+count_concat k (xs ∷ xss) = omega (arith, count_append k xs (concat xss), count_concat k xss)
 
-count_joined : (k : ℕ) (xss : List (List ℕ)) → count k (joined xss) ≡ count_in k xss
-count_joined k [] = refl
-count_joined k (xs ∷ xss) = omega (arith, count_append k xs (joined xss), count_joined k xss)
-
-length_joined : (xss : List (List ℕ)) → length (joined xss) ≡ lengths xss
-length_joined [] = refl
-length_joined (xs ∷ xss) = omega (arith, length-append xs (joined xss), length_joined xss)
+length_concat : (xss : List (List ℕ)) → length (concat xss) ≡ lengths xss
+length_concat [] = refl
+length_concat (xs ∷ xss) = omega (arith, length-append xs (concat xss), length_concat xss)
 
 -- where every place below m stands once in the lists, they have m places
 pub all_length : (xss : List (List ℕ)) (m : ℕ) → ((k : ℕ) → k < m → count_in k xss ≡ 1) → ((k : ℕ) → m ≤ k → count_in k xss ≡ 0) → lengths xss ≡ m
 all_length xss m all none =
-    sym (length_joined xss) ∙ filled_length (joined xss) m (λ k h. count_joined k xss ∙ all k h)
-    (λ k h. ⊎_elim (λ l. l) (λ l. absurd (omega (arith, count_joined k xss, none k l))) (cases_lt k m))
+    sym (length_concat xss) ∙ filled_length (concat xss) m (λ k h. count_concat k xss ∙ all k h)
+    (λ k h. ⊎_elim (λ l. l) (λ l. absurd (omega (arith, count_concat k xss, none k l))) (cases_lt k m))

@@ -2,10 +2,10 @@
 use Rattle.std.proofs.Common.{◌≡◌, ℕ, zero, suc, ◌+◌, ◌<◌, ◌≤◌, List, [], ◌∷◌, ◌++◌, length, replicate, refl, ap, ⊎_elim, arith}
 use Rattle.std.proofs.lemmas.Bool.{cases_lt, cases_eq}
 use Rattle.ring_slab.specs.declared.slots.Slot.{Slot}
-use Rattle.ring_slab.specs.Places.{look, count, count_in, lengths, head_of}
-use Rattle.ring_slab.specs.Slots.{nexts, hashes}
+use Rattle.ring_slab.specs.Places.{look, count, count_in, lengths, head_of, Below}
+use Rattle.ring_slab.specs.Slots.{chains, nexts, hashes}
 use Rattle.ring_slab.specs.Rings.{Ring, KeptOff, ring_from, Linked, Linkable}
-use Rattle.ring_slab.specs.Chains.{Ends, chain_in, free_of, home_of, Chained}
+use Rattle.ring_slab.specs.Chains.{Ends, bucket_of, chain_in, free_of, EndsIn, home_of, Chained}
 use Rattle.ring_slab.specs.Holding.{total, Rings, Holds}
 use Rattle.ring_slab.proofs.Counts.{one_at, one_off, count_head, placed_length, all_length}
 use Rattle.ring_slab.proofs.Writes.{links, ring_kept}
@@ -39,6 +39,14 @@ module _ {T : Type 0} where
   pub ring_is : {s : List (Slot T)} (xs : List ℕ) → Ring s xs → ring_from s (head_of xs) (length xs) ≡ xs
   ring_is {s} xs r = cycle_walk s xs r.cycle
 
+  nothing_ends : (s : List (Slot T)) (b : ℕ) → length s ≡ 0 → EndsIn s b
+  nothing_ends [] b none = (ends_from (look (chains {T = T} [])) 0 0 [] refl (λ k. omega arith) (λ k h. absurd (omega arith))).1
+  nothing_ends (x ∷ s) b none = absurd (omega arith)
+
+  -- the places of a ring, as a walk
+  pub ring_below : {s : List (Slot T)} (xs : List ℕ) → Ring s xs → Below (length s) (ring_from s (head_of xs) (length xs))
+  ring_below {s} xs r = rw (ring_is xs r) r.within
+
   module _ {s : List (Slot T)} {free used : ℕ} {rings : List (List ℕ)} {loose vacant entered : List ℕ} (w : Holds s free used rings loose vacant entered) where
     -- no place stands twice
     pub at_most : (k : ℕ) → total k rings loose vacant ≤ 1
@@ -69,6 +77,14 @@ module _ {T : Type 0} where
         let lt = (entered_used at h).0 in
         let lb = bucket_below (look (hashes s) at) (length s) (omega arith) in
         record { place = lt; ends = w.table.ends (home_of s at) lb; there = rw (entered_is at (omega arith)) h }
+
+    -- the chain of each hash ends, also where there are no slots
+    pub chain_ends : (hash : ℕ) → EndsIn s (bucket_of hash (length s))
+    chain_ends hash =
+        ⊎_elim
+        (λ some. w.table.ends _ (bucket_below hash (length s) some))
+        (λ none. nothing_ends s _ (omega arith))
+        (cases_lt 0 (length s))
 
     pub freeable : (at : ℕ) → 1 ≤ count_in at rings + count at loose → (at < length s) × (1 ≤ used)
     freeable at h =

@@ -55,6 +55,10 @@ module _ {T : Type 0} where
   abbrev pub chain_in : List (Slot T) → ℕ → List ℕ
   chain_in s b = chain_from s (look (buckets s) b)
 
+  -- the chain of a bucket ends
+  abbrev pub EndsIn : List (Slot T) → ℕ → Type 0
+  EndsIn s b = Ends (look (chains s)) (length s) (look (buckets s) b)
+
   -- the bucket of the hash that a slot keeps
   abbrev pub home_of : List (Slot T) → ℕ → ℕ
   home_of s k = bucket_of (look (hashes s) k) (length s)
@@ -62,7 +66,7 @@ module _ {T : Type 0} where
   -- a place that stands in the chain of the bucket of its hash: what `leave` asks
   pub record Chained (s : List (Slot T)) (at : ℕ) : Type 0 where
     pub place : at < length s
-    pub ends : Ends (look (chains s)) (length s) (look (buckets s) (home_of s at))
+    pub ends : EndsIn s (home_of s at)
     pub there : 1 ≤ count at (chain_in s (home_of s at))
 
   -- r stands right before `at` in the chain from i on
@@ -76,6 +80,6 @@ module _ {T : Type 0} where
   -- and so are the other buckets.
   pub record Rechained (s s' : List (Slot T)) (b at : ℕ) (ys : List ℕ) : Type 0 where
     pub now : chain_in s' b ≡ ys
-    pub ends : Ends (look (chains s')) (length s') (look (buckets s') b)
+    pub ends : EndsIn s' b
     pub kept : (k : ℕ) → (k ≢ at) → count k (chain_in s b) ≡ 0 → look (chains s') k ≡ look (chains s) k
     pub heads : (c : ℕ) → (c ≢ b) → look (buckets s') c ≡ look (buckets s) c

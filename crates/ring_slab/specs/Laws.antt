@@ -2,9 +2,9 @@
 use Rattle.std.specs.Prelude.{◌≡◌, ℕ, ◌+◌, ◌<◌, ◌≤◌, List, ◌∷◌, ◌++◌, length}
 use Rattle.ring_slab.specs.declared.slots.Slot.{Slot}
 use Rattle.ring_slab.specs.declared.linked_slab.LinkedSlab.{LinkedSlab}
-use Rattle.ring_slab.specs.Places.{count, count_in, lengths, head_of}
+use Rattle.ring_slab.specs.Places.{count, count_in, lengths, head_of, Below}
 use Rattle.ring_slab.specs.Rings.{Ring, ring_from, Linked, Linkable}
-use Rattle.ring_slab.specs.Chains.{free_of, chain_in, home_of, Chained}
+use Rattle.ring_slab.specs.Chains.{bucket_of, free_of, chain_in, EndsIn, home_of, Chained}
 use Rattle.ring_slab.specs.Holding.{Holds, SameLinks}
 use Rattle.ring_slab.specs.Calls.{slots_of, Held}
 
@@ -24,6 +24,8 @@ module _ {T : Type 0} where
     pub link : (before after : List (List ℕ)) (xs loose vacant entered : List ℕ) → Held m (before ++ xs ∷ after) loose vacant entered → (at : ℕ) → 1 ≤ count at loose → Linkable (slots_of m) at (head_of xs)
     pub unlink : (before after : List (List ℕ)) (xs loose vacant entered : List ℕ) → Held m (before ++ xs ∷ after) loose vacant entered → (at : ℕ) → 1 ≤ count at xs → Linked (slots_of m) at
     pub leave : (rings : List (List ℕ)) (loose vacant entered : List ℕ) → Held m rings loose vacant entered → (at : ℕ) → 1 ≤ count at entered → Chained (slots_of m) at
+    pub chain : (rings : List (List ℕ)) (loose vacant entered : List ℕ) → Held m rings loose vacant entered → (hash : ℕ) → EndsIn (slots_of m) (bucket_of hash (length (slots_of m)))
+    pub ring : (xs : List ℕ) → Ring (slots_of m) xs → Below (length (slots_of m)) (ring_from (slots_of m) (head_of xs) (length xs))
 
   -- Where items change and nothing else does, the lists stay.
   abbrev pub ItemsApart : List (Slot T) → Type 0

@@ -1,6 +1,6 @@
 -- Lists of places. A place is the number of a slot. That places differ, or that two lists share none, is said by
 -- counts.
-use Rattle.std.specs.Prelude.{ℕ, zero, suc, ◌+◌, cond, List, [], ◌∷◌, length, Some, None, Option, ◌==◌, slice_index}
+use Rattle.std.specs.Prelude.{ℕ, zero, suc, ◌+◌, ◌<◌, ◌≤◌, cond, List, [], ◌∷◌, length, Some, None, Option, ◌==◌, slice_index}
 
 -- what a list of numbers has at k
 abbrev pub look : List ℕ → ℕ → ℕ
@@ -54,3 +54,7 @@ without y (x ∷ xs) = cond (y == x) xs (x ∷ without y xs)
 abbrev pub upto : ℕ → ℕ → List ℕ
 upto i zero = []
 upto i (suc m) = i ∷ upto (i + 1) m
+
+-- each place of a list is below n
+abbrev pub Below : ℕ → List ℕ → Type 0
+Below n xs = (k : ℕ) → 1 ≤ count k xs → k < n

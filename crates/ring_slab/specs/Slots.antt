@@ -1,5 +1,5 @@
 -- A slice of slots, read as six columns: one list for each field.
-use Rattle.std.specs.Prelude.{◌≡◌, ℕ, List, map, None, Option, slice_index_or}
+use Rattle.std.specs.Prelude.{◌≡◌, ℕ, List, map, length, None, Option, slice_index_or}
 use Rattle.ring_slab.specs.declared.slots.Slot.{Slot}
 
 module _ {T : Type 0} where
@@ -34,13 +34,15 @@ module _ {T : Type 0} where
     pub hashes : hashes s ≡ hs
     pub items : items s ≡ is
 
-  -- the hash chains and the hashes are as they were
+  -- the hash chains and the hashes are as they were, of as many slots
   pub record SameChains (s s' : List (Slot T)) : Type 0 where
+    pub len : length s' ≡ length s
     pub buckets : buckets s' ≡ buckets s
     pub chains : chains s' ≡ chains s
     pub hashes : hashes s' ≡ hashes s
 
-  -- the ring links and the free list's are as they were
+  -- the ring links and the free list's are as they were, of as many slots
   pub record SameRings (s s' : List (Slot T)) : Type 0 where
+    pub len : length s' ≡ length s
     pub nexts : nexts s' ≡ nexts s
     pub prevs : prevs s' ≡ prevs s

@@ -1,7 +1,7 @@
-// One field of one slot, read.
+// One field of one slot, read. A function for each: they differ in the field, which no parameter can name.
 ghost use Rattle.std.specs.Prelude.{◌≡◌, ◌<◌, length};
 ghost use Rattle.ring_slab.specs.Places.{look};
-ghost use Rattle.ring_slab.specs.Slots.{buckets, chains, nexts, prevs, hashes, item_at};
+ghost use Rattle.ring_slab.specs.Slots.{chains, nexts, prevs, hashes, item_at};
 
 use crate::slots::Slot;
 
@@ -35,14 +35,6 @@ pub fn hash_of<T: Copy>(slots: &[Slot<T>], at: u32) -> u64
     ensures { result ≡ look (hashes slots.now) at }
 {
     slots[at as usize].hash
-}
-
-// The first place in the chain of a bucket.
-pub(crate) fn bucket_head<T: Copy>(slots: &[Slot<T>], at: u32) -> u32
-    requires { at < length slots.now }
-    ensures { result ≡ look (buckets slots.now) at }
-{
-    slots[at as usize].bucket
 }
 
 // The item at a place, lent.

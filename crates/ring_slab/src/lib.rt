@@ -10,4 +10,5 @@ pub mod linked_slab;
 mod ring;
 pub mod slots;
 mod vacancy;
+pub mod walk;
 mod write;

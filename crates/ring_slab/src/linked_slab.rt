@@ -1,25 +1,29 @@
 // Rings, a free list and hash chains in one borrowed slice of slots.
 ghost use Rattle.std.specs.Prelude.{◌≡◌, ◌<◌, ◌≤◌, min, length, Some, None, slice_set};
-ghost use Rattle.ring_slab.specs.Places.{look, head_of};
+ghost use Rattle.ring_slab.specs.Places.{look, head_of, Below};
 ghost use Rattle.ring_slab.specs.Slots.{chains, nexts, prevs, hashes, items, item_at, SameChains, SameRings};
-ghost use Rattle.ring_slab.specs.Rings.{Linked, Linkable};
-ghost use Rattle.ring_slab.specs.Chains.{bucket_of, chain_from, chain_in, rest_of, home_of, Chained};
-ghost use Rattle.ring_slab.specs.Calls.{slots_of, set_if, Fresh, Takes, Frees, Links, Unlinks, Enters, Leaves, Stores, Turns, Follows};
+ghost use Rattle.ring_slab.specs.Rings.{ring_from, Linked, Linkable};
+ghost use Rattle.ring_slab.specs.Chains.{bucket_of, EndsIn, chain_from, chain_in, rest_of, home_of, Chained};
 
 use crate::slots::Slot;
+use crate::walk::{ChainPlaces, RingPlaces};
 use crate::{chain, field, ring, vacancy, write};
 
-// A slab over a slice of slots, or over the first 1,048,576 of them. A place is the number of a slot.
+// A slab over a slice of slots, or over the first 1,048,576 of them. A place is the number of a slot: a plain number, since
+// slots keep places as links, so each call asks that its place is a slot's. That there are at most so many slots is asked only by
+// the calls that need it: as a fact of the type it would be asked of every slab that is written as a literal.
 #[derive(Drop)]
 pub struct LinkedSlab<'a, T: Copy> {
     pub slots: &'a mut [Slot<T>],
-    // the head of the free list
+    // the head of the free list, which is a link like those of the slots: the number of slots means that there is none
     pub free: u32,
     // how many slots are used
     pub used: u32,
 }
 
 impl<'a, T: Copy> LinkedSlab<'a, T> {
+    ghost use Rattle.ring_slab.specs.Calls.{slots_of, set_if, Fresh, Takes, Frees, Links, Unlinks, Enters, Leaves, Stores, Turns, Follows};
+
     // A slab with every slot vacant, whatever the slots held.
     pub fn new(slots: &'a mut [Slot<T>]) -> LinkedSlab<'a, T>
         ensures size { length (slots_of result) ≡ min 1048576 (length slots.old) }
@@ -55,7 +59,6 @@ impl<'a, T: Copy> LinkedSlab<'a, T> {
         ensures lists { Takes self.old self.new result }
         ensures items { items (slots_of self.new) ≡ set_if (items (slots_of self.old)) result (Some item) }
         ensures chains { SameChains (slots_of self.old) (slots_of self.new) }
-        ensures len { length (slots_of self.new) ≡ length (slots_of self.old) }
     {
         let at = self.free;
         if at as usize >= self.slots.len() {
@@ -75,7 +78,6 @@ impl<'a, T: Copy> LinkedSlab<'a, T> {
         ensures item { result ≡ item_at (slots_of self.old) at }
         ensures items { items (slots_of self.new) ≡ slice_set (items (slots_of self.old)) at None }
         ensures chains { SameChains (slots_of self.old) (slots_of self.new) }
-        ensures len { length (slots_of self.new) ≡ length (slots_of self.old) }
     {
         let free = self.free;
         let item = vacancy::free(self.slots, at, free);
@@ -91,7 +93,6 @@ impl<'a, T: Copy> LinkedSlab<'a, T> {
         ensures lists { Links self.old self.new at head result }
         ensures items { items (slots_of self.new) ≡ items (slots_of self.old) }
         ensures chains { SameChains (slots_of self.old) (slots_of self.new) }
-        ensures len { length (slots_of self.new) ≡ length (slots_of self.old) }
     {
         ring::link(self.slots, at, head)
     }
@@ -102,7 +103,6 @@ impl<'a, T: Copy> LinkedSlab<'a, T> {
         ensures lists { Unlinks self.old self.new at result }
         ensures items { items (slots_of self.new) ≡ items (slots_of self.old) }
         ensures chains { SameChains (slots_of self.old) (slots_of self.new) }
-        ensures len { length (slots_of self.new) ≡ length (slots_of self.old) }
     {
         ring::unlink(self.slots, at)
     }
@@ -115,9 +115,9 @@ impl<'a, T: Copy> LinkedSlab<'a, T> {
         ensures hashes { hashes (slots_of self.new) ≡ slice_set (hashes (slots_of self.old)) at hash }
         ensures items { items (slots_of self.new) ≡ items (slots_of self.old) }
         ensures rings { SameRings (slots_of self.old) (slots_of self.new) }
-        ensures len { length (slots_of self.new) ≡ length (slots_of self.old) }
     {
-        chain::enter(self.slots, at, hash);
+        let bucket = chain::bucket_of(hash, self.slots.len());
+        chain::enter(self.slots, bucket, at, hash);
     }
 
     // Takes an entered place out of the chain of the hash that its slot keeps.
@@ -128,9 +128,9 @@ impl<'a, T: Copy> LinkedSlab<'a, T> {
         ensures hashes { hashes (slots_of self.new) ≡ hashes (slots_of self.old) }
         ensures items { items (slots_of self.new) ≡ items (slots_of self.old) }
         ensures rings { SameRings (slots_of self.old) (slots_of self.new) }
-        ensures len { length (slots_of self.new) ≡ length (slots_of self.old) }
     {
-        chain::leave(self.slots, at);
+        let bucket = chain::bucket_of(self.hash_of(at), self.slots.len());
+        chain::leave(self.slots, bucket, at);
     }
 
     // The first place in the chain of a hash's bucket, which holds every place entered under that hash.
@@ -149,6 +149,31 @@ impl<'a, T: Copy> LinkedSlab<'a, T> {
         ensures walk { Follows self.now at result }
     {
         chain::after(self.slots, at)
+    }
+
+    // The places in the chain of a hash's bucket, in order.
+    pub fn chain(&self, hash: u64) -> ChainPlaces<'_, T>
+        requires size { length (slots_of self.now) ≤ 1048576 }
+        requires ends { EndsIn (slots_of self.now) (bucket_of hash (length (slots_of self.now))) }
+        ensures { result ≡ chain_in (slots_of self.now) (bucket_of hash (length (slots_of self.now))) }
+    {
+        let bucket = chain::bucket_of(hash, self.slots.len());
+        ChainPlaces {
+            slots: self.slots,
+            link: chain::head_in(self.slots, bucket),
+        }
+    }
+
+    // The places of a ring of so many places, from its head on, once round.
+    pub fn ring(&self, head: Option<u32>, len: u32) -> RingPlaces<'_, T>
+        requires { Below (length (slots_of self.now)) (ring_from (slots_of self.now) head len) }
+        ensures { result ≡ ring_from (slots_of self.now) head len }
+    {
+        RingPlaces {
+            slots: self.slots,
+            next: head,
+            left: len,
+        }
     }
 
     // The next place round the ring; the place itself where it is alone.
@@ -199,7 +224,6 @@ impl<'a, T: Copy> LinkedSlab<'a, T> {
         ensures items { items (slots_of self.new) ≡ slice_set (items (slots_of self.old)) at (Some item) }
         ensures rings { SameRings (slots_of self.old) (slots_of self.new) }
         ensures chains { SameChains (slots_of self.old) (slots_of self.new) }
-        ensures len { length (slots_of self.new) ≡ length (slots_of self.old) }
     {
         write::set_item(self.slots, at, Some(item));
     }

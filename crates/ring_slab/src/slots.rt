@@ -1,7 +1,7 @@
 ghost use Rattle.std.specs.Prelude.{◌≡◌, None};
 
 // One slot: an item, and the links that pass through the slot's place. A link that is the number of slots means
-// that there is none.
+// that there is none: memory is fixed, and an Option<u32> would take twice the room of a link.
 #[derive(Clone, Copy)]
 pub struct Slot<T> {
     // the first place in the chain of the hash bucket with this slot's number

@@ -15,8 +15,8 @@ pub(crate) fn clear<T: Copy>(slots: &mut [Slot<T>])
     ensures items { (k : ℕ) → k < length slots.new → item_at slots.new k ≡ None }
 {
     let none = slots.len() as u32;
-    'fill: for i in 0..slots.len() {
-        slots[i] = Slot {
+    'fill: for (i, slot) in slots.iter_mut().enumerate() {
+        *slot = Slot {
             bucket: none,
             chain: none,
             next: i as u32 + 1,

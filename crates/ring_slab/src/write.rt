@@ -1,4 +1,7 @@
-// One field of one slot, written.
+// One field of one slot, written. A function for each field, so that what a write leaves is said once: several in a row
+// would each repeat the whole slice.
+#![tactic(auto, using(crate::proofs::Fields::column_steps))]
+
 ghost use Rattle.std.specs.Prelude.{◌<◌, length, slice_set};
 ghost use Rattle.ring_slab.specs.Slots.{buckets, chains, nexts, prevs, hashes, items, Columns};
 

@@ -1,5 +1,5 @@
 use crate::guarded::{after, append, enter, first, free, item, next_of, start, take, unlink};
-use crate::leaving::first_leaves;
+use crate::leaving::{both_entered, both_linked, first_leaves};
 use ring_slab::linked_slab::LinkedSlab;
 use ring_slab::slots::Slot;
 use std::test::Fail;
@@ -97,4 +97,14 @@ fn a_slot_too_many(rt: HostRuntime) -> Result<(), Fail> {
 #[test]
 fn the_second_moves_up(rt: HostRuntime) {
     assert_eq!(rt; first_leaves(), [Some(0), Some(1)]);
+}
+
+#[test]
+fn the_places_of_a_chain(rt: HostRuntime) {
+    assert_eq!(rt; both_entered(), [Some(0), Some(1), None]);
+}
+
+#[test]
+fn the_places_of_a_ring(rt: HostRuntime) {
+    assert_eq!(rt; both_linked(), [Some(0), Some(1), None]);
 }

@@ -1,50 +1,27 @@
-use Rattle.std.proofs.Common.{◌<◌, length, sym, ◌∙◌, subst}
-use Rattle.ring_slab.specs.Places.{look}
+use Rattle.std.proofs.Common.{◌==◌, ◌∷◌, length, refl, sym, ap, ◌∙◌, subst, rules, arith}
+use Rattle.std.proofs.lemmas.Iterator.Adapters.{serves_from_places}
+use Rattle.std.proofs.lemmas.Iterator.Consumers.{YieldsList-from_first}
+use Rattle.std.proofs.lemmas.Iterator.Search.{find_from_yields_List}
+use Rattle.std.specs.Option.{IsSomeAnd}
+use Rattle.ring_slab.specs.Places.{look, count}
 use Rattle.ring_slab.specs.Slots.{chains}
-use Rattle.ring_slab.specs.Chains.{chain}
-use Rattle.ring_slab.proofs.Chains.{Before, inside, before_none, before_more, before_less, before_all}
+use Rattle.ring_slab.specs.Chains.{chain_from, JustBefore}
+use Rattle.ring_slab.proofs.Counts.{below_at, count_append, one_at}
+use Rattle.ring_slab.proofs.Walks.{as_found}
+use Rattle.ring_slab.proofs.Chains.{found_before}
 use Rattle.ring_slab.proofs.chain.place_before.Goals as goal
 
-pub chain_of-link-requires : goal.chain_of-link-requires
-chain_of-link-requires g c = inside (look (chains c.args.slots.now)) (length c.args.slots.now) c.args.first c.args.at c.requires.there
-
-pub walk-init : goal.walk-init
-walk-init g c =
-    let s = c.args.slots.now in
-    (before_none (look (chains s)) (length s) c.args.first c.args.at c.requires.ends c.requires.later c.requires.there, c.chain_of-link.ensures)
-
-pub chain_of-link-requires-in-walk : goal.chain_of-link-requires-in-walk
-chain_of-link-requires-in-walk g c =
-    let n = look (chains c.args.slots.now) in
-    let e = length c.args.slots.now in
-    let is = c.walk.invariant.1 in
-    let q = before_more n e c.args.first c.args.at c.walk.place c.walk.invariant.0 (λ z. c.walk-test.true (is ∙ z)) in
-    subst (λ i. i < e) (sym is) q.place
-
-pub walk-smaller : goal.walk-smaller
-walk-smaller g c =
-    let n = look (chains c.args.slots.now) in
-    let e = length c.args.slots.now in
-    subst (λ i. length (chain n e i) < length (chain n e c.walk.place)) (sym c.walk.invariant.1)
-    (before_less n e c.args.first c.args.at c.walk.place c.walk.invariant.0)
-
-pub walk-preserved : goal.walk-preserved
-walk-preserved g c =
-    let n = look (chains c.args.slots.now) in
-    let e = length c.args.slots.now in
-    let is = c.walk.invariant.1 in
-    let q = before_more n e c.args.first c.args.at c.walk.place c.walk.invariant.0 (λ z. c.walk-test.true (is ∙ z)) in
-    (subst (λ i. Before n e c.args.first c.args.at i) (sym is) q, c.chain_of-link-in-walk.ensures)
+pub find-requires-clause-callable : goal.find-requires-clause-callable
+find-requires-clause-callable g c =
+    let ks = chain_from c.args.slots.now c.args.first in
+    serves_from_places (YieldsList-from_first (λ x. x) (λ rest. rest) ks refl) (λ x q r. search rules)
+    (λ x k lt is. let below = below_at (length c.args.slots.now) ks k x c.requires.ends.within lt in λ y e _ _ _ _ _ _ _ _ _. omega (arith, is, e))
 
 pub returns : goal.returns
 returns g c =
-    let n = look (chains c.args.slots.now) in
-    let e = length c.args.slots.now in
-    let at = c.args.at in
-    let w = c.walk.invariant.0 in
-    record {
-      before = w.passed;
-      after = chain n e (n at);
-      split = before_all n e c.args.first at c.walk.place w (sym c.walk.invariant.1 ∙ c.walk-test.false);
-      place = w.place;
-    }
+    let s = c.args.slots.now in
+    let ks = chain_from s c.args.first in
+    let q = found_before (look (chains s)) (length s) c.args.first c.args.at ks c.requires.ends.links c.requires.later c.requires.there in
+    let r = find_from_yields_List (λ k. look (chains s) k == c.args.at) _ _ c.find.result c.find.ensures.ran (YieldsList-from_first (λ x. x) (λ rest. rest) ks refl) (λ x b q k. search rules) in
+    subst (λ o. IsSomeAnd o (JustBefore s c.args.first c.args.at)) (sym (as_found c.find.result _ r ∙ q.3))
+    (record { before = q.1; after = q.2; split = q.4; place = c.requires.ends.within q.0 (omega (arith, ap (λ l. count q.0 l) q.4, count_append q.0 q.1 (q.0 ∷ c.args.at ∷ q.2), one_at q.0 q.0 refl)) })

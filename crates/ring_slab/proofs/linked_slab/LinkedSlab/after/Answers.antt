@@ -4,12 +4,9 @@ use Rattle.ring_slab.specs.Slots.{buckets, chains}
 use Rattle.ring_slab.proofs.Chains.{chain_rest}
 use Rattle.ring_slab.proofs.linked_slab.LinkedSlab.after.Goals as goal
 
-pub returns : goal.returns
-returns g c =
+pub returns-clause-walk : goal.returns-clause-walk
+returns-clause-walk g c =
     let s = c.args.self.now.slots.now in
-    record {
-      place = c.after.ensures.place;
-      walk = λ rings loose vacant entered bucket a b w lt is.
-          let q = chain_rest (look (chains s)) (length s) (look (buckets s) bucket) a b c.args.at (w.table.ends bucket lt) is in
-          (c.after.ensures.place ∙ ap head_of q.0, c.after.ensures.rest ∙ q.0);
-    }
+    λ rings loose vacant entered bucket a b w lt is.
+    let q = chain_rest (look (chains s)) (length s) (look (buckets s) bucket) a b c.args.at (w.table.ends bucket lt) is in
+    (c.after.ensures.place ∙ ap head_of q.0, c.after.ensures.rest ∙ q.0)

@@ -1,4 +1,4 @@
-use Rattle.std.proofs.Common.{◌≡◌, ℕ, ◌+◌, List, [], ◌∷◌, ◌++◌, length, Some, unwrap_or, refl, ap, ◌∙◌, arith}
+use Rattle.std.proofs.Common.{◌≡◌, ℕ, ◌+◌, List, [], ◌∷◌, ◌++◌, Some, unwrap_or, refl, ap, ◌∙◌, arith}
 use Rattle.ring_slab.specs.Places.{count, head_of}
 use Rattle.ring_slab.proofs.Counts.{one_at, count_append, count_less, count_in_append}
 use Rattle.ring_slab.proofs.Holding.{at_most, rings_split}
@@ -9,24 +9,15 @@ head_push : (ys : List ℕ) (y : ℕ) → Some (unwrap_or (head_of ys) y) ≡ he
 head_push [] y = refl
 head_push (x ∷ xs) y = refl
 
-pub returns : goal.returns
-returns g c =
+pub returns-clause-lists : goal.returns-clause-lists
+returns-clause-lists g c =
     let s = c.args.self.now.slots.now in
-    let s' = c.link.new.slots in
     let at = c.args.at in
-    let len : length s' ≡ length s = omega arith in
-    record {
-      lists = λ before after xs a b vacant entered w is.
-          let less : (k : ℕ) → count k (a ++ at ∷ b) ≡ count k (at ∷ []) + count k (a ++ b) = λ k. omega (arith, count_less k at a b) in
-          let more : (k : ℕ) → count k (xs ++ at ∷ []) ≡ count k xs + count k (at ∷ []) = λ k. count_append k xs (at ∷ []) in
-          let out : count at xs ≡ 0 = omega (arith, at_most w at, count_in_append at before (xs ∷ after), less at, one_at at at refl) in
-          let r = c.link.ensures.ring xs (rings_split s before (xs ∷ after) w.each).1.0 is out in (
-            relinked before after xs (xs ++ at ∷ []) (xs ++ at ∷ []) (a ++ b) w r.0 r.1
-                (λ k. omega (arith, more k, less k)) (λ k. omega (arith, more k, less k)) len
-                c.link.ensures.others.buckets c.link.ensures.others.chains c.link.ensures.others.hashes c.link.ensures.others.items,
-            ap Some (c.link.ensures.head ∙ ap (λ o. unwrap_or o at) is) ∙ head_push xs at,
-          );
-      items = c.link.ensures.others.items;
-      chains = record { buckets = c.link.ensures.others.buckets; chains = c.link.ensures.others.chains; hashes = c.link.ensures.others.hashes };
-      len = len;
-    }
+    λ before after xs a b vacant entered w is.
+    let less : (k : ℕ) → count k (a ++ at ∷ b) ≡ count k (at ∷ []) + count k (a ++ b) = λ k. omega (arith, count_less k at a b) in
+    let more : (k : ℕ) → count k (xs ++ at ∷ []) ≡ count k xs + count k (at ∷ []) = λ k. count_append k xs (at ∷ []) in
+    let out : count at xs ≡ 0 = omega (arith, at_most w at, count_in_append at before (xs ∷ after), less at, one_at at at refl) in
+    let r = c.link.ensures.ring xs (rings_split s before (xs ∷ after) w.each).1.0 is out in (
+      relinked before after xs (xs ++ at ∷ []) (xs ++ at ∷ []) (a ++ b) w r.0 r.1 (λ k. omega (arith, more k, less k)) (λ k. omega (arith, more k, less k)) c.link.ensures.others,
+      ap Some (c.link.ensures.head ∙ ap (λ o. unwrap_or o at) is) ∙ head_push xs at,
+    )
