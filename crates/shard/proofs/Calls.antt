@@ -1,15 +1,15 @@
 -- The model's calls, with no edit open and nothing noted yet.
-use Rattle.std.proofs.Common.{◌≡◌, ℕ, suc, true, eqb, List, [], sym, refl, ap, ◌∙◌, subst}
+use Rattle.std.proofs.Common.{◌≡◌, ℕ, suc, true, eqb, List, [], sym, refl, ap, ◌∙◌, subst, arith}
 use Rattle.interface.specs.Meaning.{Keying}
 use Rattle.settings.specs.Standing.{limits}
-use Rattle.model.specs.Lists.{Pick, nothing, here, pick}
+use Rattle.model.specs.Lists.{Pick, pick}
 use Rattle.model.specs.Entries as model
 use Rattle.model.specs.Calls as calls
-use Rattle.model.specs.Calls.{State, Call, Answer, Outcome, closed, outside_edit, eventless, outcome, step}
+use Rattle.model.specs.Calls.{State, Call, Answer, Outcome, outside_edit, eventless, outcome, step}
 use Rattle.model.specs.Standing.{Standing}
 use Rattle.model.proofs.Lookup.{step_outside}
 use Rattle.model.proofs.Runs.{laws_of_states}
-use Rattle.shard.specs.declared.cache_shard.CacheShard.{CacheShard}
+use Rattle.shard.specs.declared.layout.Layout.{Layout}
 use Rattle.shard.specs.Layout.{Places}
 use Rattle.shard.specs.Shows.{Shows}
 use Rattle.shard.specs.Steps.{SameTerms}
@@ -21,13 +21,10 @@ module _ {K V : Type 0} where
   eventless_is s h = ap (λ es. record { slots = s.slots; limits = s.limits; rings = record { hot = s.rings.hot; cold = s.rings.cold; off = s.rings.off; ghosts = s.rings.ghosts; events = es }; placeholders = s.placeholders; next = s.next; edit = s.edit }) (sym h)
 
   spot_is : (z : model.Spot K V) (q : Pick (model.Placeholder K)) (g : Pick ℕ) → z ≡ as_spot (calls.found_resident z (calls.found_placeholder q (calls.found_ghost g)))
-  spot_is model.nowhere nothing nothing = refl
-  spot_is model.nowhere nothing (here b g a) = refl
-  spot_is model.nowhere (here b q a) g = refl
-  spot_is (model.at w b r a) q g = refl
+  spot_is z q g = grind arith
 
   -- events do not show
-  pub same_content : {e : Keying K} {x : CacheShard K V} {p : Places} {t : model.Rings K V} {ps : List (model.Placeholder K)} (events : List (model.Event K V)) → Shows e x p t ps → Shows e x p (record { hot = t.hot; cold = t.cold; off = t.off; ghosts = t.ghosts; events = events }) ps
+  pub same_content : {e : Keying K} {x : Layout K V} {p : Places} {t : model.Rings K V} {ps : List (model.Placeholder K)} (events : List (model.Event K V)) → Shows e x p t ps → Shows e x p (record { hot = t.hot; cold = t.cold; off = t.off; ghosts = t.ghosts; events = events }) ps
   same_content events w =
       record {
         stands = w.stands;
@@ -55,7 +52,7 @@ module _ {K V : Type 0} (e : Keying K) where
   keeps symmetric transitive n c s h = (laws_of_states e (record { symmetric = symmetric; transitive = transitive })).kept n c s h
 
   -- What a call comes to, in the model, is what the shard x' shows, with the same terms as s.
-  pub record Comes (x' : CacheShard K V) (s : State K V) (o : State K V × Answer K V) (answer : Answer K V) : Type 0 where
+  pub record Comes (x' : Layout K V) (s : State K V) (o : State K V × Answer K V) (answer : Answer K V) : Type 0 where
     pub answered : o.1 ≡ answer
     pub places : Places
     pub shown : Shows e x' places o.0.rings o.0.placeholders
@@ -64,7 +61,7 @@ module _ {K V : Type 0} (e : Keying K) where
     pub same_slots : o.0.slots ≡ s.slots
     pub same_edit : o.0.edit ≡ s.edit
 
-  pub depicted : (c : Call K V) (n : ℕ) (s : State K V) (x x' : CacheShard K V) (answer : Answer K V) → Keeps V e → SameTerms x x' → Depicts e x s → Comes x' s (outside_edit e n c s) answer →
+  pub depicted : (c : Call K V) (n : ℕ) (s : State K V) (x x' : Layout K V) (answer : Answer K V) → Keeps V e → SameTerms x x' → Depicts e x s → Comes x' s (outside_edit e n c s) answer →
       Depicts e x' (step e n c s).state × ((step e n c s).answer ≡ answer) × ((step e n c s).events ≡ (outside_edit e n c s).0.rings.events)
   depicted c n s x x' answer keep terms d k =
       let st : step e n c s ≡ outcome (outside_edit e n c s) = step_outside e n c s d.edit ∙ ap (λ (z : State K V). outcome (outside_edit e n c z)) (eventless_is s d.quiet) in
@@ -81,5 +78,5 @@ module _ {K V : Type 0} (e : Keying K) where
       } in
       (subst (λ (z : Outcome K V). Depicts e x' z.state) (sym st) after, ap (λ (z : Outcome K V). z.answer) st ∙ k.answered, ap (λ (z : Outcome K V). z.events) st)
 
-  pub follows_plainly : (c : Call K V) (x x' : CacheShard K V) (answer : Answer K V) → Keeps V e → SameTerms x x' → ((n : ℕ) (s : State K V) → Depicts e x s → Comes x' s (outside_edit e n c s) answer) → FollowsPlainly e c x x' answer
+  pub follows_plainly : (c : Call K V) (x x' : Layout K V) (answer : Answer K V) → Keeps V e → SameTerms x x' → ((n : ℕ) (s : State K V) → Depicts e x s → Comes x' s (outside_edit e n c s) answer) → FollowsPlainly e c x x' answer
   follows_plainly c x x' answer keep terms k n s d = let z = depicted c n s x x' answer keep terms d (k n s d) in (z.0, z.1)

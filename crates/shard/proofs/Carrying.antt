@@ -9,7 +9,7 @@ use Rattle.ring_slab.proofs.Counts.{one_at, count_append, count_less, split_at}
 use Rattle.shard.specs.declared.entry.Entry.{Entry}
 use Rattle.shard.specs.declared.ring.RingName.{RingName}
 use Rattle.shard.specs.declared.ring.RingName.TheVariants.{Hot, Cold, Ghosts}
-use Rattle.shard.specs.declared.cache_shard.CacheShard.{CacheShard}
+use Rattle.shard.specs.declared.layout.Layout.{Layout}
 use Rattle.shard.specs.Tallies.{by_state}
 use Rattle.shard.specs.Layout.{Places, ring_at, ringed, loosed, freed, kind_of, in_ring, off_rings, slots, entry_at, hash_at, Stands, SameEntries}
 use Rattle.shard.specs.Moves.{Appends, TurnsOut, Deletes, Overwrites, Releases}
@@ -25,7 +25,7 @@ ring_name true = Hot
 ring_name false = Cold
 
 module _ {K V : Type 0} where
-  module _ {e : Keying K} {x : CacheShard K V} {p : Places} {at : ℕ} {c : Entry K V} {t : model.Rings K V} {ps : List (model.Placeholder K)} (w : Carries e x p at c t ps) where
+  module _ {e : Keying K} {x : Layout K V} {p : Places} {at : ℕ} {c : Entry K V} {t : model.Rings K V} {ps : List (model.Placeholder K)} (w : Carries e x p at c t ps) where
     pub held_once : count at p.hand ≡ 1
     held_once = ap (count at) w.held ∙ omega (arith, one_at at at refl)
 
@@ -36,13 +36,13 @@ module _ {K V : Type 0} where
     held_apart = (omega (arith, held_once, places_most w.stands at), omega (arith, held_once, places_most w.stands at))
 
     -- it is freed
-    pub let_go : {x' : CacheShard K V} → Releases at x x' → items (slots x') ≡ set (items (slots x)) at None → hashes (slots x') ≡ hashes (slots x) → Shows e x' (freed (at ∷ p.vacant) [] p) t ps
+    pub let_go : {x' : Layout K V} → Releases at x x' → items (slots x') ≡ set (items (slots x)) at None → hashes (slots x') ≡ hashes (slots x) → Shows e x' (freed (at ∷ p.vacant) [] p) t ps
     let_go {x'} r is hs =
         shows_from (r p w.stands w.held) refl
         (with_free (contents_set x x' at None is hs held_below tt held_apart.0 w.contents) (at ∷ p.vacant) [])
 
     -- another entry is written over it
-    pub written_over : {x' : CacheShard K V} {new : Entry K V} → Overwrites at new x x' → items (slots x') ≡ set (items (slots x)) at (Some new) → hashes (slots x') ≡ hashes (slots x) → Hashed e (Some new) (hash_at x at) → Carries e x' p at new t ps
+    pub written_over : {x' : Layout K V} {new : Entry K V} → Overwrites at new x x' → items (slots x') ≡ set (items (slots x)) at (Some new) → hashes (slots x') ≡ hashes (slots x) → Hashed e (Some new) (hash_at x at) → Carries e x' p at new t ps
     written_over {x'} {new} o is hs key =
         record {
           stands = o p w.stands (inl (omega (arith, held_once))) held_apart.1;
@@ -50,10 +50,6 @@ module _ {K V : Type 0} where
           entry = entry_set x x' at (Some new) is held_below;
           contents = contents_set x x' at (Some new) is hs held_below key held_apart.0 w.contents;
         }
-
-    -- the links have changed elsewhere
-    pub hash_held : Hashed e (Some c) (hash_at x at)
-    hash_held = subst (λ o. Hashed e o (hash_at x at)) w.entry (w.contents.keyed at)
 
   -- ---- a resident goes to where it belongs
   enter_off : (m : model.Resident K V) (t : model.Rings K V) → eqb m.weight 0 ≡ true → model.enter m t ≡ model.put model.off_rings (t.off ++ m ∷ []) t
@@ -65,7 +61,7 @@ module _ {K V : Type 0} where
   kind_off : (m : model.Resident K V) → eqb m.weight 0 ≡ true → kind_of (Some (plain m)) ≡ off_rings
   kind_off m z = ap (λ b. cond b off_rings (by_state (part m.hot) (in_ring Hot) (in_ring Cold))) z
 
-  module _ {e : Keying K} {x : CacheShard K V} {p : Places} {at : ℕ} {t : model.Rings K V} {ps : List (model.Placeholder K)} (m : model.Resident K V) (w : Carries e x p at (plain m) t ps) where
+  module _ {e : Keying K} {x : Layout K V} {p : Places} {at : ℕ} {t : model.Rings K V} {ps : List (model.Placeholder K)} (m : model.Resident K V) (w : Carries e x p at (plain m) t ps) where
     -- weightless, it is laid down off the rings
     pub laid_off : eqb m.weight 0 ≡ true → Shows e x (loosed (at ∷ p.loose) [] p) (model.enter m t) ps
     laid_off z =
@@ -74,7 +70,7 @@ module _ {K V : Type 0} where
         (off_push w.contents at (at ∷ p.loose) m w.entry (λ k. refl)))
 
     -- with a weight, it is appended to the ring of its state
-    pub put_back : {x' : CacheShard K V} (b : Bool) → m.hot ≡ b → eqb m.weight 0 ≡ false → Appends (ring_name b) at x x' → SameEntries x x' → Shows e x' (ringed (ring_name b) (ring_at (ring_name b) p ++ at ∷ []) [] p) (model.enter m t) ps
+    pub put_back : {x' : Layout K V} (b : Bool) → m.hot ≡ b → eqb m.weight 0 ≡ false → Appends (ring_name b) at x x' → SameEntries x x' → Shows e x' (ringed (ring_name b) (ring_at (ring_name b) p ++ at ∷ []) [] p) (model.enter m t) ps
     put_back {x'} true h z a same =
         subst (λ u. Shows e x' (ringed Hot (p.hot ++ at ∷ []) [] p) u ps) (sym (enter_ring m t z ∙ ap (λ b. model.put (model.ring_of b) (model.list (model.ring_of b) t ++ m ∷ []) t) h))
         (shows_from (a p w.stands w.held) refl (hot_push (contents_kept x x' same w.contents) at [] m (entry_kept x x' same at ∙ w.entry)))
@@ -83,8 +79,8 @@ module _ {K V : Type 0} where
         (shows_from (a p w.stands w.held) refl (cold_push (contents_kept x x' same w.contents) at [] m (entry_kept x x' same at ∙ w.entry)))
 
   -- ---- an entry is taken out of its list
-  module _ {e : Keying K} {x : CacheShard K V} {p : Places} {t : model.Rings K V} {ps : List (model.Placeholder K)} (w : Shows e x p t ps) {at : ℕ} {c : Entry K V} (here : entry_at x at ≡ Some c) (ks ds : List ℕ) where
-    pub out_of_hot : {x' : CacheShard K V} (b a : List (model.Resident K V)) → Deletes Hot at x x' → SameEntries x x' → p.hot ≡ ks ++ at ∷ ds → Shown x ks b → Shown x ds a → Carries e x' (ringed Hot (ks ++ ds) (at ∷ []) p) at c (model.put model.hot_ring (b ++ a) t) ps
+  module _ {e : Keying K} {x : Layout K V} {p : Places} {t : model.Rings K V} {ps : List (model.Placeholder K)} (w : Shows e x p t ps) {at : ℕ} {c : Entry K V} (here : entry_at x at ≡ Some c) (ks ds : List ℕ) where
+    pub out_of_hot : {x' : Layout K V} (b a : List (model.Resident K V)) → Deletes Hot at x x' → SameEntries x x' → p.hot ≡ ks ++ at ∷ ds → Shown x ks b → Shown x ds a → Carries e x' (ringed Hot (ks ++ ds) (at ∷ []) p) at c (model.put model.hot_ring (b ++ a) t) ps
     out_of_hot {x'} b a d same split sb sa =
         record {
           stands = d p ks ds w.stands w.settled split;
@@ -93,7 +89,7 @@ module _ {K V : Type 0} where
           contents = contents_kept x x' same (with_hot (contents_of w) (ks ++ ds) (at ∷ []) (b ++ a) (joins (entry_at x) (λ r. Some (plain r)) ks ds b a sb sa));
         }
 
-    pub out_of_cold : {x' : CacheShard K V} (b a : List (model.Resident K V)) → Deletes Cold at x x' → SameEntries x x' → p.cold ≡ ks ++ at ∷ ds → Shown x ks b → Shown x ds a → Carries e x' (ringed Cold (ks ++ ds) (at ∷ []) p) at c (model.put model.cold_ring (b ++ a) t) ps
+    pub out_of_cold : {x' : Layout K V} (b a : List (model.Resident K V)) → Deletes Cold at x x' → SameEntries x x' → p.cold ≡ ks ++ at ∷ ds → Shown x ks b → Shown x ds a → Carries e x' (ringed Cold (ks ++ ds) (at ∷ []) p) at c (model.put model.cold_ring (b ++ a) t) ps
     out_of_cold {x'} b a d same split sb sa =
         record {
           stands = d p ks ds w.stands w.settled split;
@@ -102,7 +98,7 @@ module _ {K V : Type 0} where
           contents = contents_kept x x' same (with_cold (contents_of w) (ks ++ ds) (at ∷ []) (b ++ a) (joins (entry_at x) (λ r. Some (plain r)) ks ds b a sb sa));
         }
 
-    pub out_of_ghosts : {x' : CacheShard K V} (b a : List ℕ) → Deletes Ghosts at x x' → SameEntries x x' → p.ghosts ≡ ks ++ at ∷ ds → mapped (hash_at x) ks ≡ b → mapped (hash_at x) ds ≡ a → Carries e x' (ringed Ghosts (ks ++ ds) (at ∷ []) p) at c (model.put_ghosts (b ++ a) t) ps
+    pub out_of_ghosts : {x' : Layout K V} (b a : List ℕ) → Deletes Ghosts at x x' → SameEntries x x' → p.ghosts ≡ ks ++ at ∷ ds → mapped (hash_at x) ks ≡ b → mapped (hash_at x) ds ≡ a → Carries e x' (ringed Ghosts (ks ++ ds) (at ∷ []) p) at c (model.put_ghosts (b ++ a) t) ps
     out_of_ghosts {x'} b a d same split sb sa =
         record {
           stands = d p ks ds w.stands w.settled split;
@@ -112,7 +108,7 @@ module _ {K V : Type 0} where
         }
 
     -- the same, where the ring goes on from its successor
-    pub turned_hot : {x' : CacheShard K V} (b a : List (model.Resident K V)) → TurnsOut Hot at x x' → SameEntries x x' → p.hot ≡ ks ++ at ∷ ds → Shown x ks b → Shown x ds a → Carries e x' (ringed Hot (ds ++ ks) (at ∷ []) p) at c (model.put model.hot_ring (a ++ b) t) ps
+    pub turned_hot : {x' : Layout K V} (b a : List (model.Resident K V)) → TurnsOut Hot at x x' → SameEntries x x' → p.hot ≡ ks ++ at ∷ ds → Shown x ks b → Shown x ds a → Carries e x' (ringed Hot (ds ++ ks) (at ∷ []) p) at c (model.put model.hot_ring (a ++ b) t) ps
     turned_hot {x'} b a d same split sb sa =
         record {
           stands = d p ks ds w.stands w.settled split;
@@ -121,7 +117,7 @@ module _ {K V : Type 0} where
           contents = contents_kept x x' same (with_hot (contents_of w) (ds ++ ks) (at ∷ []) (a ++ b) (joins (entry_at x) (λ r. Some (plain r)) ds ks a b sa sb));
         }
 
-    pub turned_cold : {x' : CacheShard K V} (b a : List (model.Resident K V)) → TurnsOut Cold at x x' → SameEntries x x' → p.cold ≡ ks ++ at ∷ ds → Shown x ks b → Shown x ds a → Carries e x' (ringed Cold (ds ++ ks) (at ∷ []) p) at c (model.put model.cold_ring (a ++ b) t) ps
+    pub turned_cold : {x' : Layout K V} (b a : List (model.Resident K V)) → TurnsOut Cold at x x' → SameEntries x x' → p.cold ≡ ks ++ at ∷ ds → Shown x ks b → Shown x ds a → Carries e x' (ringed Cold (ds ++ ks) (at ∷ []) p) at c (model.put model.cold_ring (a ++ b) t) ps
     turned_cold {x'} b a d same split sb sa =
         record {
           stands = d p ks ds w.stands w.settled split;
@@ -180,7 +176,7 @@ module _ {K V : Type 0} where
         )
 
   -- ---- a resident is changed where it lies
-  module _ {e : Keying K} {x x' : CacheShard K V} {p : Places} {t : model.Rings K V} {ps : List (model.Placeholder K)} (w : Shows e x p t ps) (at : ℕ) (m : model.Resident K V)
+  module _ {e : Keying K} {x x' : Layout K V} {p : Places} {t : model.Rings K V} {ps : List (model.Placeholder K)} (w : Shows e x p t ps) (at : ℕ) (m : model.Resident K V)
       (is : items (slots x') ≡ set (items (slots x)) at (Some (plain m))) (hs : hashes (slots x') ≡ hashes (slots x)) (st : Stands x' p) (new : hash_at x at ≡ e.code m.key) (ks ds : List ℕ) (b a : List (model.Resident K V)) where
     -- a list with the place in it
     shown_here : (xs : List ℕ) → xs ≡ ks ++ at ∷ ds → at < length (slots x) → count at xs ≤ 1 → Shown x ks b → Shown x ds a → Shown x' xs (b ++ m ∷ a)

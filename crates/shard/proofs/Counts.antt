@@ -1,7 +1,7 @@
 -- Counts of places, and sums over the slots of a shard.
-use Rattle.std.proofs.Common.{◌≡◌, ℕ, zero, suc, ◌+◌, ◌*◌, ◌<◌, ◌≤◌, Bool, true, List, [], ◌∷◌, ◌++◌, length, get_or, set, is_some, Some, None, Option, sym, refl, ap, ◌∙◌, ⊎_elim, suc-mul, arith, eqb}
+use Rattle.std.proofs.Common.{◌≡◌, ℕ, zero, suc, ◌+◌, ◌*◌, ◌<◌, ◌≤◌, Bool, true, List, [], ◌∷◌, length, get_or, set, is_some, Some, None, Option, sym, refl, ap, ◌∙◌, ⊎_elim, suc-mul, arith, eqb}
 use Rattle.std.specs.Option.{option_eq}
-use Rattle.std.proofs.lemmas.Bool.{eq-eqb, eqb-true, ne_eqb, cond-true, cond-false, cases_eq, both_ways}
+use Rattle.std.proofs.lemmas.Bool.{eq-eqb, ne_eqb, cond-true, cond-false, cases_eq, both_ways}
 use Rattle.ring_slab.specs.Places.{one, count, head_of, front, rest}
 use Rattle.ring_slab.proofs.Counts.{one_at, one_off}
 use Rattle.model.specs.Lists.{sum_of}
@@ -27,12 +27,10 @@ count_none_of k (x ∷ ks) others =
 
 -- ---- the first of a list
 pub head_counts : (xs : List ℕ) (at : ℕ) → head_of xs ≡ Some at → 1 ≤ count at xs
-head_counts [] at e = absurd (both_ways true (ap is_some (sym e)) refl)
-head_counts (x ∷ xs) at e = let z : at ≡ x = cc in omega (arith, one_at at x z)
+head_counts xs at e = grind (arith, one_at)
 
 pub head_none : (xs : List ℕ) → head_of xs ≡ None → xs ≡ []
-head_none [] e = refl
-head_none (x ∷ xs) e = absurd (both_ways true (ap is_some e) refl)
+head_none xs e = grind arith
 
 pub front_none : (v : List ℕ) → None ≡ head_of v → front v ≡ []
 front_none [] e = refl
@@ -43,18 +41,14 @@ front_some [] at e = absurd (both_ways true (ap is_some e) refl)
 front_some (y ∷ v) at e = let z : at ≡ y = cc in ap (λ i. i ∷ []) (sym z)
 
 pub front_handed : (v : List ℕ) (r : Option ℕ) → r ≡ head_of v → front v ≡ handed r
-front_handed v None e = front_none v e
-front_handed v (Some at) e = front_some v at e
+front_handed v r e = grind arith
 
 pub count_front : (k : ℕ) (v : List ℕ) → count k v ≡ count k (front v) + count k (rest v)
-count_front k [] = refl
-count_front k (y ∷ v) = omega arith
+count_front k v = grind arith
 
 -- what a test of an optional place says of it
 pub test_of : (o : Option ℕ) (at : ℕ) (r : Bool) → r ≡ option_eq eqb o (Some at) → (h : ℕ) → o ≡ Some h → (r ≡ true → h ≡ at) × (h ≡ at → r ≡ true)
-test_of o at r t h e =
-    let q : r ≡ eqb h at = t ∙ ap (λ (z : Option ℕ). option_eq eqb z (Some at)) e in
-    (λ z. eqb-true h at (sym q ∙ z), λ z. q ∙ eq-eqb h at z)
+test_of o at r t h e = grind arith
 
 -- ---- sums
 module _ {X : Type 0} (f : X → ℕ) where
@@ -79,7 +73,3 @@ module _ {X : Type 0} (f : X → ℕ) where
   sum_same d [] (y ∷ ys) l h = absurd (omega arith)
   sum_same d (x ∷ xs) [] l h = absurd (omega arith)
   sum_same d (x ∷ xs) (y ∷ ys) l h = omega (arith, h 0, sum_same d xs ys (omega arith) (λ k. h (suc k)))
-
-  pub sum_push : (xs : List X) (y : X) → sum_of f (xs ++ y ∷ []) ≡ sum_of f xs + f y
-  sum_push [] y = omega arith
-  sum_push (x ∷ xs) y = omega (arith, sum_push xs y)

@@ -1,6 +1,6 @@
 -- What leaves its ring: taken out, let go, kept at weight 0, promoted.
-use Rattle.std.proofs.Common.{◌≡◌, ℕ, ◌+◌, ◌<◌, ◌≤◌, Bool, true, false, cond, eqb, ltb, List, [], ◌∷◌, ◌++◌, length, get_or, set, Some, None, Option, sym, refl, ap, ◌∙◌, subst, inl, arith}
-use Rattle.std.proofs.lemmas.Bool.{cond-true, eq-eqb, ne_eqb}
+use Rattle.std.proofs.Common.{◌≡◌, ℕ, ◌+◌, ◌<◌, ◌≤◌, Bool, true, false, cond, ltb, List, [], ◌∷◌, ◌++◌, length, get_or, set, Some, None, Option, sym, refl, ap, ◌∙◌, subst, inl, arith}
+use Rattle.std.proofs.lemmas.Bool.{eq-eqb, ne_eqb}
 use Rattle.interface.specs.Meaning.{Keying, Life}
 use Rattle.settings.specs.Standing.{limits}
 use Rattle.model.specs.Lists.{tail, when}
@@ -13,11 +13,8 @@ use Rattle.ring_slab.proofs.Counts.{one_at, count_head}
 use Rattle.shard.specs.declared.entry.Entry.{Entry}
 use Rattle.shard.specs.declared.entry.Entry.TheVariants as E
 use Rattle.shard.specs.declared.entry.Resident.{Resident}
-use Rattle.shard.specs.declared.entry.ResidentState.{ResidentState}
-use Rattle.shard.specs.declared.ring.RingName.{RingName}
 use Rattle.shard.specs.declared.ring.RingName.TheVariants.{Hot, Cold, Ghosts}
-use Rattle.shard.specs.declared.cache_shard.CacheShard.{CacheShard}
-use Rattle.shard.specs.Tallies.{by_state}
+use Rattle.shard.specs.declared.layout.Layout.{Layout}
 use Rattle.shard.specs.Layout.{Places, slots, entry_at, hash_at, in_ring, off_rings, kind_of, ringed, loosed, freed, places, Sound, SameEntries}
 use Rattle.shard.specs.Moves.{Appends, Overwrites, Releases}
 use Rattle.shard.specs.Shows.{part, plain, Hashed, Shows}
@@ -27,18 +24,6 @@ use Rattle.shard.specs.Hands.{resident_of, LetsGo, BoundsGhosts, SameLengths}
 use Rattle.shard.proofs.Standing.{places_most, hand_below, lay_down, stands_sound}
 use Rattle.shard.proofs.Takes.{same_size, used_same}
 use Rattle.shard.proofs.Views.{contents_set, contents_kept, contents_of, entry_set, with_event, with_free, off_push, ghost_push, shows_from}
-
-pub kinded_state : (b : Bool) (s : ResidentState) (n : RingName) → cond b off_rings (by_state s (in_ring Hot) (in_ring Cold)) ≡ in_ring n → (b ≡ false) × (by_state s (in_ring Hot) (in_ring Cold) ≡ in_ring n)
-kinded_state true s n e = let z : ◌≡◌ {A = ℕ} 0 1 = cc in absurd (omega arith)
-kinded_state false s n e = (refl, e)
-
-state_hot : (h : Bool) → by_state (part h) (in_ring Hot) (in_ring Cold) ≡ in_ring Hot → h ≡ true
-state_hot true e = refl
-state_hot false e = let z : ◌≡◌ {A = ℕ} 0 1 = cc in absurd (omega arith)
-
-state_cold : (h : Bool) → by_state (part h) (in_ring Hot) (in_ring Cold) ≡ in_ring Cold → h ≡ false
-state_cold true e = let z : ◌≡◌ {A = ℕ} 0 1 = cc in absurd (omega arith)
-state_cold false e = refl
 
 module _ {K V : Type 0} where
   -- ---- the model's eviction, where the record weighs nothing then, and where it weighs something
@@ -58,7 +43,7 @@ module _ {K V : Type 0} where
     evict_leaves ne = rw (ne_eqb (u.weigh r.key trimmed_to) 0 ne)
 
   -- ---- what is in hand is in no list
-  module _ {e : Keying K} {x : CacheShard K V} {p : Places} {at : ℕ} {c : Entry K V} {t : model.Rings K V} {ps : List (model.Placeholder K)} (h : Carries e x p at c t ps) where
+  module _ {e : Keying K} {x : Layout K V} {p : Places} {at : ℕ} {c : Entry K V} {t : model.Rings K V} {ps : List (model.Placeholder K)} (h : Carries e x p at c t ps) where
     pub in_hand : 1 ≤ count at p.hand
     in_hand = omega (arith, ap (count at) h.held, one_at at at refl)
 
@@ -72,7 +57,7 @@ module _ {K V : Type 0} where
     not_vacant = omega (arith, in_hand, places_most h.stands at)
 
     -- ---- an entry is written over it
-    pub rewritten : (x' : CacheShard K V) (new : Entry K V) → Overwrites at new x x' → items (slots x') ≡ set (items (slots x)) at (Some new) → hashes (slots x') ≡ hashes (slots x) → Hashed e (Some new) (hash_at x at) → Carries e x' p at new t ps
+    pub rewritten : (x' : Layout K V) (new : Entry K V) → Overwrites at new x x' → items (slots x') ≡ set (items (slots x)) at (Some new) → hashes (slots x') ≡ hashes (slots x) → Hashed e (Some new) (hash_at x at) → Carries e x' p at new t ps
     rewritten x' new ow is hs key =
         record {
           stands = ow p h.stands (inl in_hand) not_vacant;
@@ -82,7 +67,7 @@ module _ {K V : Type 0} where
         }
 
     -- ---- its slot is freed
-    pub dropped : (x' : CacheShard K V) → Releases at x x' → items (slots x') ≡ set (items (slots x)) at None → hashes (slots x') ≡ hashes (slots x) → Shows e x' (freed (at ∷ p.vacant) [] p) t ps
+    pub dropped : (x' : Layout K V) → Releases at x x' → items (slots x') ≡ set (items (slots x)) at None → hashes (slots x') ≡ hashes (slots x) → Shows e x' (freed (at ∷ p.vacant) [] p) t ps
     dropped x' rl is hs = shows_from (rl p h.stands h.held) refl (with_free (contents_set x x' at None is hs in_slots tt in_none h.contents) (at ∷ p.vacant) [])
 
     -- ---- it is laid down, off the rings
@@ -94,16 +79,16 @@ module _ {K V : Type 0} where
     pub carries_event : (v : model.Event K V) → Carries e x p at c (model.note v t) ps
     carries_event v = record { stands = h.stands; held = h.held; entry = h.entry; contents = with_event h.contents v }
 
-  pub shows_event : {e : Keying K} {x : CacheShard K V} {p : Places} {t : model.Rings K V} {ps : List (model.Placeholder K)} → Shows e x p t ps → (v : model.Event K V) → Shows e x p (model.note v t) ps
+  pub shows_event : {e : Keying K} {x : Layout K V} {p : Places} {t : model.Rings K V} {ps : List (model.Placeholder K)} → Shows e x p t ps → (v : model.Event K V) → Shows e x p (model.note v t) ps
   shows_event s v = shows_from s.stands s.settled (with_event (contents_of s) v)
 
   -- ---- what is in hand goes: the shard is sound, and its rings are as long as they were
-  pub record Parted (x x' : CacheShard K V) : Type 0 where
+  pub record Parted (x x' : Layout K V) : Type 0 where
     pub sound : Sound x' []
     pub used : NoMoreUsed x x'
     pub lengths : SameLengths x x'
 
-  module _ (x x' : CacheShard K V) (at : ℕ) (sound : Sound x (at ∷ [])) where
+  module _ (x x' : Layout K V) (at : ℕ) (sound : Sound x (at ∷ [])) where
     at_hand : 1 ≤ count at (at ∷ [])
     at_hand = count_head at []
 
@@ -127,18 +112,8 @@ module _ {K V : Type 0} where
           lengths = record { hot = w.laid.hot.len ∙ sym sound.laid.hot.len; cold = w.laid.cold.len ∙ sym sound.laid.cold.len };
         }
 
-    pub parted_drops : Releases at x x' → SameTerms x x' → Sound x' [] → Parted x x'
-    parted_drops rl terms sound' =
-        let p = places x (at ∷ []) in
-        let w = rl p sound refl in
-        record {
-          sound = sound';
-          used = record { terms = terms; used = omega (arith, sound.laid.held.counted, w.laid.held.counted, terms.size) };
-          lengths = record { hot = w.laid.hot.len ∙ sym sound.laid.hot.len; cold = w.laid.cold.len ∙ sym sound.laid.cold.len };
-        }
-
     -- a ghost is written over it and appended to its ring
-    pub parted_ghost : (x'' : CacheShard K V) → Overwrites at E.Ghost x x' → SameTerms x x' → Appends Ghosts at x' x'' → SameEntries x' x'' → Sound x'' [] → Parted x x''
+    pub parted_ghost : (x'' : Layout K V) → Overwrites at E.Ghost x x' → SameTerms x x' → Appends Ghosts at x' x'' → SameEntries x' x'' → Sound x'' [] → Parted x x''
     parted_ghost x'' ow terms ap' same sound'' =
         let p = places x (at ∷ []) in
         let w = ow p sound (inl at_hand) at_free in
@@ -150,38 +125,27 @@ module _ {K V : Type 0} where
           lengths = record { hot = w'.laid.hot.len ∙ sym sound.laid.hot.len; cold = w'.laid.cold.len ∙ sym sound.laid.cold.len };
         }
 
-  pub parted_then : (x x' x'' : CacheShard K V) → Parted x x' → Sound x'' [] → NoMoreUsed x' x'' → SameLengths x' x'' → Parted x x''
-  parted_then x x' x'' a sound used lengths =
-      record {
-        sound = sound;
-        used = record {
-          terms = record { settings = used.terms.settings ∙ a.used.terms.settings; issued = used.terms.issued ∙ a.used.terms.issued; size = used.terms.size ∙ a.used.terms.size };
-          used = omega (arith, used.used, a.used.used);
-        };
-        lengths = record { hot = lengths.hot ∙ a.lengths.hot; cold = lengths.cold ∙ a.lengths.cold };
-      }
+  pub parted_then : (x x' x'' : Layout K V) → Parted x x' → Sound x'' [] → NoMoreUsed x' x'' → SameLengths x' x'' → Parted x x''
+  parted_then x x' x'' a sound used lengths = grind arith
 
   pub resident_is : (o : Option (Entry K V)) (r : Resident K V) → Some r ≡ resident_of o → o ≡ Some (E.Resident r)
-  resident_is None r e = let z : ◌≡◌ {A = ℕ} 0 1 = cc in absurd (omega arith)
-  resident_is (Some (E.Resident q)) r e = let i : q ≡ r = cc in ap (λ z. Some (E.Resident z)) i
-  resident_is (Some (E.Placeholder p)) r e = let z : ◌≡◌ {A = ℕ} 0 1 = cc in absurd (omega arith)
-  resident_is (Some E.Ghost) r e = let z : ◌≡◌ {A = ℕ} 0 1 = cc in absurd (omega arith)
+  resident_is o r e = grind arith
 
   -- ---- a resident of the model as the program's
   abbrev pub as_resident : model.Resident K V → Resident K V
   as_resident r = record { key = r.key; weight = r.weight; value = r.val; state = part r.hot; reads = r.reads }
 
   pub same_resident : (o : Option (Entry K V)) (q : Resident K V) (r : model.Resident K V) → o ≡ Some (E.Resident q) → o ≡ Some (plain r) → q ≡ as_resident r
-  same_resident o q r i j = let k : Some (E.Resident q) ≡ Some (E.Resident (as_resident r)) = sym i ∙ j in cc
+  same_resident o q r i j = grind arith
 
   pub hot_by_kind : (r : model.Resident K V) → kind_of (Some (plain r)) ≡ in_ring Hot → r.hot ≡ true
-  hot_by_kind r k = state_hot r.hot (kinded_state (eqb r.weight 0) (part r.hot) Hot k).1
+  hot_by_kind r k = grind arith
 
   pub cold_by_kind : (r : model.Resident K V) → kind_of (Some (plain r)) ≡ in_ring Cold → r.hot ≡ false
-  cold_by_kind r k = state_cold r.hot (kinded_state (eqb r.weight 0) (part r.hot) Cold k).1
+  cold_by_kind r k = grind arith
 
 -- ---- What is in hand is trimmed and weighed: the model's eviction.
-module _ {S K V : Type 0} (weigh : K → V → ℕ) (l : Life S K V) (x : CacheShard K V) (at : ℕ) (q q₁ : S) (rp : Resident K V) (v : V) (n : ℕ)
+module _ {S K V : Type 0} (weigh : K → V → ℕ) (l : Life S K V) (x : Layout K V) (at : ℕ) (q q₁ : S) (rp : Resident K V) (v : V) (n : ℕ)
     (is : entry_at x at ≡ Some (E.Resident rp)) (tq : q₁ ≡ (l.trim q rp.key rp.value).0) (tv : v ≡ (l.trim q rp.key rp.value).1) (nw : n ≡ weigh rp.key v) where
   -- what the program's values are in the model
   record Same (e : Keying K) (s₀ : S) (r : model.Resident K V) (t : model.Rings K V) : Type 0 where
@@ -206,12 +170,12 @@ module _ {S K V : Type 0} (weigh : K → V → ℕ) (l : Life S K V) (x : CacheS
   hashed e p t ps c h = subst (λ o. Hashed e o (hash_at x at)) is (h.contents.keyed at)
 
   -- at weight 0 it stays, off the rings
-  module _ (x' : CacheShard K V) where
+  module _ (x' : Layout K V) where
     abbrev pub kept_entry : Entry K V
     kept_entry = E.Resident (record { key = rp.key; weight = n; value = v; state = rp.state; reads = rp.reads })
 
     pub kept_off : n ≡ 0 → kind_of (Some kept_entry) ≡ off_rings
-    kept_off z = cond-true (eqb n 0) off_rings (by_state rp.state (in_ring Hot) (in_ring Cold)) (eq-eqb n 0 z)
+    kept_off z = grind arith
 
     pub lets_stay : n ≡ 0 → Overwrites at kept_entry x x' → items (slots x') ≡ set (items (slots x)) at (Some kept_entry) → hashes (slots x') ≡ hashes (slots x) → LetsGo weigh l evict at x x' q q₁
     lets_stay z ow set_items hs e s₀ p r t ps qe h =
@@ -229,7 +193,7 @@ module _ {S K V : Type 0} (weigh : K → V → ℕ) (l : Life S K V) (x : CacheS
         (m.the_state ∙ ap (λ y. state_after l s₀ y.events) (sym ends), (loosed (at ∷ p.loose) [] p, subst (λ y. Shows e x' (loosed (at ∷ p.loose) [] p) y ps) (sym ends) shows))
 
   -- else it goes: a hot one to the hot hook, and its slot is free
-  module _ (x' : CacheShard K V) (q₂ : S) (more : n ≡ 0 → ⊥) where
+  module _ (x' : Layout K V) (q₂ : S) (more : n ≡ 0 → ⊥) where
     -- the model's hook
     hook_is : (e : Keying K) (s₀ : S) (r : model.Resident K V) (t : model.Rings K V) → Same e s₀ r t → (b : Bool) → r.hot ≡ b →
         evict (context_of weigh l e x s₀) r t ≡ model.note (model.hooked b r.number r.key (trimmed_to (context_of weigh l e x s₀) r t)) (model.put_ghosts (ghosts_after (context_of weigh l e x s₀) b r.key t.ghosts) (after_trim (context_of weigh l e x s₀) r t))
@@ -248,7 +212,7 @@ module _ {S K V : Type 0} (weigh : K → V → ℕ) (l : Life S K V) (x : CacheS
         (state ∙ ap (λ y. state_after l s₀ y.events) (sym ends), (freed (at ∷ p.vacant) [] p, subst (λ y. Shows e x' (freed (at ∷ p.vacant) [] p) y ps) (sym ends) shows))
 
     -- a cold one to the cold hook, and a ghost stands in its slot
-    pub lets_leave_cold : (x₁ x₂ : CacheShard K V) → kind_of (entry_at x at) ≡ in_ring Cold → q₂ ≡ l.cold q₁ rp.key v → Overwrites at E.Ghost x x₁ → items (slots x₁) ≡ set (items (slots x)) at (Some E.Ghost) → hashes (slots x₁) ≡ hashes (slots x) → x₁.settings ≡ x.settings →
+    pub lets_leave_cold : (x₁ x₂ : Layout K V) → kind_of (entry_at x at) ≡ in_ring Cold → q₂ ≡ l.cold q₁ rp.key v → Overwrites at E.Ghost x x₁ → items (slots x₁) ≡ set (items (slots x)) at (Some E.Ghost) → hashes (slots x₁) ≡ hashes (slots x) → x₁.settings ≡ x.settings →
         Appends Ghosts at x₁ x₂ → SameEntries x₁ x₂ → BoundsGhosts x₂ x' → LetsGo weigh l evict at x x' q q₂
     lets_leave_cold x₁ x₂ kind hq ow set_items hs set₁ ap' kept bounds e s₀ p r t ps qe h =
         let u = context_of weigh l e x s₀ in

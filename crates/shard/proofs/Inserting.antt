@@ -1,5 +1,5 @@
 -- Residents that come, go and change.
-use Rattle.std.proofs.Common.{◌≡◌, ℕ, ◌≤◌, Bool, true, false, cond, eqb, ◌⊎◌, List, [], ◌∷◌, ◌++◌, length, get_or, set, Some, None, sym, refl, ap, ◌∙◌, subst, inl, inr, ⊎_elim, arith}
+use Rattle.std.proofs.Common.{◌≡◌, ℕ, ◌≤◌, Bool, true, false, eqb, ◌⊎◌, List, [], ◌∷◌, ◌++◌, length, get_or, set, Some, None, sym, refl, ap, ◌∙◌, subst, inl, inr, arith}
 use Rattle.interface.specs.Meaning.{Keying}
 use Rattle.model.specs.Lists.{when}
 use Rattle.model.specs.Entries as model
@@ -7,15 +7,11 @@ use Rattle.ring_slab.specs.Places.{count}
 use Rattle.ring_slab.specs.Slots.{items, hashes}
 use Rattle.ring_slab.proofs.Counts.{one_at, count_less, split_at}
 use Rattle.shard.specs.declared.entry.Resident.{Resident}
-use Rattle.shard.specs.declared.entry.Entry.{Entry}
 use Rattle.shard.specs.declared.entry.Entry.TheVariants as E
-use Rattle.shard.specs.declared.entry.ResidentState.{ResidentState}
-use Rattle.shard.specs.declared.entry.ResidentState.TheVariants as S
 use Rattle.shard.specs.declared.ring.RingName.{RingName}
 use Rattle.shard.specs.declared.ring.RingName.TheVariants.{Hot, Cold, Ghosts}
-use Rattle.shard.specs.declared.cache_shard.CacheShard.{CacheShard}
-use Rattle.shard.specs.Tallies.{by_state}
-use Rattle.shard.specs.Layout.{Places, ringed, loosed, ring_at, kind_of, Kind, in_ring, off_rings, slots, entry_at, hash_at, ring_places, Stands, Sound, SameEntries}
+use Rattle.shard.specs.declared.layout.Layout.{Layout}
+use Rattle.shard.specs.Layout.{Places, ringed, loosed, ring_at, kind_of, in_ring, off_rings, slots, entry_at, hash_at, ring_places, Sound, SameEntries}
 use Rattle.shard.specs.Moves.{Appends, TurnsOut, Deletes, Overwrites, Releases}
 use Rattle.shard.specs.Shows.{plain, part, Shows}
 use Rattle.shard.specs.Finds.{places_of}
@@ -26,21 +22,8 @@ use Rattle.shard.proofs.Standing.{loose_by_kind, ring_by_kind, pick_up, stands_s
 use Rattle.shard.proofs.Carrying.{ring_name, let_go, laid_off, put_back, out_of_hot, out_of_cold, out_of_off, turned_hot, turned_cold, written_over, changed_in}
 
 -- ---- kinds
-abbrev kind_code : Kind → ℕ
-kind_code (in_ring Hot) = 0
-kind_code (in_ring Cold) = 1
-kind_code (in_ring Ghosts) = 2
-kind_code off_rings = 3
-kind_code Rattle.shard.specs.Layout.free = 4
-
 ring_part : (b : Bool) → ring_for (part b) ≡ ring_name b
-ring_part true = refl
-ring_part false = refl
-
-abbrev named : RingName → Kind → RingName
-named d (in_ring n) = n
-named d off_rings = d
-named d Rattle.shard.specs.Layout.free = d
+ring_part b = grind arith
 
 -- does the list lie off the rings?
 abbrev off_ring : model.Where → Bool
@@ -53,57 +36,32 @@ counts_in at xs ks ds split = omega (arith, ap (count at) split, count_less at a
 
 module _ {K V : Type 0} where
   pub kind_ring : (r : Resident K V) → eqb r.weight 0 ≡ false → kind_of (Some (E.Resident r)) ≡ in_ring (ring_for r.state)
-  kind_ring r z = ap (λ b. cond b off_rings (by_state r.state (in_ring Hot) (in_ring Cold))) z ∙ by r.state
-    where
-      by : (s : ResidentState) → by_state s (in_ring Hot) (in_ring Cold) ≡ in_ring (ring_for s)
-      by S.Hot = refl
-      by S.Cold = refl
+  kind_ring r z = grind arith
 
   kind_out : (r : Resident K V) → eqb r.weight 0 ≡ true → kind_of (Some (E.Resident r)) ≡ off_rings
-  kind_out r z = ap (λ b. cond b off_rings (by_state r.state (in_ring Hot) (in_ring Cold))) z
-
-  -- what the entry of a model's resident has
-  abbrev weight_in : ℕ → Entry K V → ℕ
-  weight_in d (E.Resident r) = r.weight
-  weight_in d (E.Placeholder q) = d
-  weight_in d E.Ghost = d
-
-  abbrev state_in : ResidentState → Entry K V → ResidentState
-  state_in d (E.Resident r) = r.state
-  state_in d (E.Placeholder q) = d
-  state_in d E.Ghost = d
+  kind_out r z = grind arith
 
   pub weight_is : (r : Resident K V) (m : model.Resident K V) → E.Resident r ≡ plain m → r.weight ≡ m.weight
-  weight_is r m h = ap (weight_in 0) h
+  weight_is r m h = cc
 
   pub state_is : (r : Resident K V) (m : model.Resident K V) → E.Resident r ≡ plain m → r.state ≡ part m.hot
-  state_is r m h = ap (state_in S.Hot) h
+  state_is r m h = cc
 
-  module _ {e : Keying K} {x : CacheShard K V} {p : Places} {t : model.Rings K V} {ps : List (model.Placeholder K)} (shows : Shows e x p t ps) (at : ℕ) (r : Resident K V) (here : entry_at x at ≡ Some (E.Resident r)) where
+  module _ {e : Keying K} {x : Layout K V} {p : Places} {t : model.Rings K V} {ps : List (model.Placeholder K)} (shows : Shows e x p t ps) (at : ℕ) (r : Resident K V) (here : entry_at x at ≡ Some (E.Resident r)) where
     -- a resident with a weight is in the ring of its state
     ring_of_it : (n : RingName) → eqb r.weight 0 ≡ false → 1 ≤ count at (ring_at n p) → ring_for r.state ≡ n
-    ring_of_it n z h = ap (named n) (sym (kind_ring r z) ∙ sym (ap kind_of here) ∙ kind_in_ring shows.stands n at h)
+    ring_of_it n z h = let e : in_ring (ring_for r.state) ≡ in_ring n = sym (kind_ring r z) ∙ sym (ap kind_of here) ∙ kind_in_ring shows.stands n at h in cc
 
     -- and not among those off the rings
     not_off : eqb r.weight 0 ≡ false → 1 ≤ count at p.loose → ⊥
-    not_off z h = ring_not_off (ring_for r.state) (sym (kind_ring r z) ∙ sym (ap kind_of here) ∙ shows.stands.ranked.loose at h)
-      where
-        ring_not_off : (n : RingName) → in_ring n ≡ off_rings → ⊥
-        ring_not_off Hot q = omega (arith, ap kind_code q)
-        ring_not_off Cold q = omega (arith, ap kind_code q)
-        ring_not_off Ghosts q = omega (arith, ap kind_code q)
+    not_off z h = let e : in_ring (ring_for r.state) ≡ off_rings = sym (kind_ring r z) ∙ sym (ap kind_of here) ∙ shows.stands.ranked.loose at h in cc
 
     -- a weightless one is in no ring
     not_ringed : (n : RingName) → eqb r.weight 0 ≡ true → 1 ≤ count at (ring_at n p) → ⊥
-    not_ringed n z h = off_not_ring n (sym (kind_out r z) ∙ sym (ap kind_of here) ∙ kind_in_ring shows.stands n at h)
-      where
-        off_not_ring : (n : RingName) → off_rings ≡ in_ring n → ⊥
-        off_not_ring Hot q = omega (arith, ap kind_code q)
-        off_not_ring Cold q = omega (arith, ap kind_code q)
-        off_not_ring Ghosts q = omega (arith, ap kind_code q)
+    not_ringed n z h = let e : off_rings ≡ in_ring n = sym (kind_out r z) ∙ sym (ap kind_of here) ∙ kind_in_ring shows.stands n at h in cc
 
   -- ---- taking out
-  pub takes_out_ring : (at : ℕ) (r : Resident K V) (x x' : CacheShard K V) → eqb r.weight 0 ≡ false → Deletes (ring_for r.state) at x x' → SameEntries x x' → entry_at x at ≡ Some (E.Resident r) → TakesOut at r x x'
+  pub takes_out_ring : (at : ℕ) (r : Resident K V) (x x' : Layout K V) → eqb r.weight 0 ≡ false → Deletes (ring_for r.state) at x x' → SameEntries x x' → entry_at x at ≡ Some (E.Resident r) → TakesOut at r x x'
   takes_out_ring at r x x' z d same here e p t ps shows model.hot_ring b a m eq lies = (
     _,
     out_of_hot shows (here ∙ ap Some eq) lies.ks lies.ds b a
@@ -117,19 +75,19 @@ module _ {K V : Type 0} where
   takes_out_ring at r x x' z d same here e p t ps shows model.off_rings b a m eq lies =
       absurd (not_off shows at r here z (omega (arith, shows.loose at, counts_in at shows.offs lies.ks lies.ds lies.split)))
 
-  pub takes_out_none : (at : ℕ) (r : Resident K V) (x : CacheShard K V) → eqb r.weight 0 ≡ true → entry_at x at ≡ Some (E.Resident r) → TakesOut at r x x
+  pub takes_out_none : (at : ℕ) (r : Resident K V) (x : Layout K V) → eqb r.weight 0 ≡ true → entry_at x at ≡ Some (E.Resident r) → TakesOut at r x x
   takes_out_none at r x z here e p t ps shows model.hot_ring b a m eq lies = absurd (not_ringed shows at r here Hot z (counts_in at p.hot lies.ks lies.ds lies.split))
   takes_out_none at r x z here e p t ps shows model.cold_ring b a m eq lies = absurd (not_ringed shows at r here Cold z (counts_in at p.cold lies.ks lies.ds lies.split))
   takes_out_none at r x z here e p t ps shows model.off_rings b a m eq lies =
       out_of_off shows (here ∙ ap Some eq) lies.ks lies.ds b a lies.split lies.before lies.after
 
   -- a weightless resident can be taken up where it lies
-  pub up_sound : (at : ℕ) (r : Resident K V) (x : CacheShard K V) → eqb r.weight 0 ≡ true → entry_at x at ≡ Some (E.Resident r) → Sound x [] → Sound x (at ∷ [])
+  pub up_sound : (at : ℕ) (r : Resident K V) (x : Layout K V) → eqb r.weight 0 ≡ true → entry_at x at ≡ Some (E.Resident r) → Sound x [] → Sound x (at ∷ [])
   up_sound at r x z here w =
       let s = split_at at _ (loose_by_kind w at (ap kind_of here ∙ kind_out r z) refl) in
       stands_sound (pick_up w at s.0 s.1 refl s.2)
 
-  pub there : (at : ℕ) (r : Resident K V) (x : CacheShard K V) → eqb r.weight 0 ≡ false → entry_at x at ≡ Some (E.Resident r) → Sound x [] → 1 ≤ count at (ring_places (ring_for r.state) x)
+  pub there : (at : ℕ) (r : Resident K V) (x : Layout K V) → eqb r.weight 0 ≡ false → entry_at x at ≡ Some (E.Resident r) → Sound x [] → 1 ≤ count at (ring_places (ring_for r.state) x)
   there at r x z here w = in_places (ring_for r.state) (ring_by_kind w (ring_for r.state) at (ap kind_of here ∙ kind_ring r z) refl)
     where
       in_places : (n : RingName) → 1 ≤ count at (ring_at n (Rattle.shard.specs.Layout.places x [])) → 1 ≤ count at (ring_places n x)
@@ -138,45 +96,41 @@ module _ {K V : Type 0} where
       in_places Ghosts h = h
 
   -- ---- entering
-  pub enters_ring : (at : ℕ) (r : Resident K V) (x x' : CacheShard K V) → eqb r.weight 0 ≡ false → Appends (ring_for r.state) at x x' → SameEntries x x' → Enters at r x x'
+  pub enters_ring : (at : ℕ) (r : Resident K V) (x x' : Layout K V) → eqb r.weight 0 ≡ false → Appends (ring_for r.state) at x x' → SameEntries x x' → Enters at r x x'
   enters_ring at r x x' z ap' same e q t ps m eq w =
       (_, put_back m w m.hot refl (ap (λ n. eqb n 0) (sym (weight_is r m eq)) ∙ z) (subst (λ n. Appends n at x x') (ap ring_for (state_is r m eq) ∙ ring_part m.hot) ap') same)
 
-  pub enters_none : (at : ℕ) (r : Resident K V) (x : CacheShard K V) → eqb r.weight 0 ≡ true → Enters at r x x
+  pub enters_none : (at : ℕ) (r : Resident K V) (x : Layout K V) → eqb r.weight 0 ≡ true → Enters at r x x
   enters_none at r x z e q t ps m eq w = (_, laid_off m w (ap (λ n. eqb n 0) (sym (weight_is r m eq)) ∙ z))
 
-  pub down_sound : (at : ℕ) (r : Resident K V) (x : CacheShard K V) → eqb r.weight 0 ≡ true → entry_at x at ≡ Some (E.Resident r) → Sound x (at ∷ []) → Sound x []
+  pub down_sound : (at : ℕ) (r : Resident K V) (x : Layout K V) → eqb r.weight 0 ≡ true → entry_at x at ≡ Some (E.Resident r) → Sound x (at ∷ []) → Sound x []
   down_sound at r x z here w = stands_sound (lay_down w at refl (ap kind_of here ∙ kind_out r z))
 
   -- ---- expelling
-  pub expels : (at : ℕ) (r : Resident K V) (x x₁ x' : CacheShard K V) → TakesOut at r x x₁ → Releases at x₁ x' → items (slots x') ≡ set (items (slots x₁)) at None → hashes (slots x') ≡ hashes (slots x₁) → Expels at r x x'
+  pub expels : (at : ℕ) (r : Resident K V) (x x₁ x' : Layout K V) → TakesOut at r x x₁ → Releases at x₁ x' → items (slots x') ≡ set (items (slots x₁)) at None → hashes (slots x') ≡ hashes (slots x₁) → Expels at r x x'
   expels at r x x₁ x' o rel is hs e p t ps shows v b a m eq lies =
       let w = o e p t ps shows v b a m eq lies in (_, let_go w.1 rel is hs)
 
   -- ---- a resident is replaced by another of its state
   -- hashes are as they were
-  hash_moves : (x x' : CacheShard K V) → hashes (slots x') ≡ hashes (slots x) → (at : ℕ) → hash_at x' at ≡ hash_at x at
+  hash_moves : (x x' : Layout K V) → hashes (slots x') ≡ hashes (slots x) → (at : ℕ) → hash_at x' at ≡ hash_at x at
   hash_moves x x' h at = ap (λ (l : List ℕ). get_or l at 0) h
 
   -- the model settles a resident by its weight
   settle_out : (v : model.Where) (b a : List (model.Resident K V)) (m : model.Resident K V) (t : model.Rings K V) → (v ≡ model.hot_ring) ⊎ (v ≡ model.cold_ring) → eqb m.weight 0 ≡ true → model.settle v b m a t ≡ model.enter m (model.put v (a ++ b) t)
   unfolding when
-  settle_out v b a m t h z =
-      ⊎_elim (λ i. subst (λ u. model.settle u b m a t ≡ model.enter m (model.put u (a ++ b) t)) (sym i) (ap (λ c. when c (λ _. model.enter m (model.put model.hot_ring (a ++ b) t)) (λ _. model.keep_at model.hot_ring b m a t)) z))
-      (λ i. subst (λ u. model.settle u b m a t ≡ model.enter m (model.put u (a ++ b) t)) (sym i) (ap (λ c. when c (λ _. model.enter m (model.put model.cold_ring (a ++ b) t)) (λ _. model.keep_at model.cold_ring b m a t)) z)) h
+  settle_out v b a m t h z = grind arith
 
   settle_stays : (v : model.Where) (b a : List (model.Resident K V)) (m : model.Resident K V) (t : model.Rings K V) → eqb m.weight 0 ≡ off_ring v → model.settle v b m a t ≡ model.keep_at v b m a t
   unfolding when
-  settle_stays model.hot_ring b a m t z = ap (λ c. when c (λ _. model.enter m (model.put model.hot_ring (a ++ b) t)) (λ _. model.keep_at model.hot_ring b m a t)) z
-  settle_stays model.cold_ring b a m t z = ap (λ c. when c (λ _. model.enter m (model.put model.cold_ring (a ++ b) t)) (λ _. model.keep_at model.cold_ring b m a t)) z
-  settle_stays model.off_rings b a m t z = ap (λ c. when c (λ _. model.keep_at model.off_rings b m a t) (λ _. model.enter m (model.put model.off_rings (b ++ a) t))) z
+  settle_stays v b a m t z = grind arith
 
   settle_in : (b a : List (model.Resident K V)) (m : model.Resident K V) (t : model.Rings K V) → eqb m.weight 0 ≡ false → model.settle model.off_rings b m a t ≡ model.enter m (model.put model.off_rings (b ++ a) t)
   unfolding when
-  settle_in b a m t z = ap (λ c. when c (λ _. model.keep_at model.off_rings b m a t) (λ _. model.enter m (model.put model.off_rings (b ++ a) t))) z
+  settle_in b a m t z = grind arith
 
   -- in its place
-  pub resettles_same : (at : ℕ) (old new : Resident K V) (x x' : CacheShard K V) → entry_at x at ≡ Some (E.Resident old) → kind_of (Some (E.Resident new)) ≡ kind_of (Some (E.Resident old)) → eqb new.weight 0 ≡ eqb old.weight 0 →
+  pub resettles_same : (at : ℕ) (old new : Resident K V) (x x' : Layout K V) → entry_at x at ≡ Some (E.Resident old) → kind_of (Some (E.Resident new)) ≡ kind_of (Some (E.Resident old)) → eqb new.weight 0 ≡ eqb old.weight 0 →
       Overwrites at (E.Resident new) x x' → items (slots x') ≡ set (items (slots x)) at (Some (E.Resident new)) → hashes (slots x') ≡ hashes (slots x) → Resettles at new x x'
   resettles_same at old new x x' here kinds weights o is hs e p t ps shows v b a m eq key lies = (
     p,
@@ -197,7 +151,7 @@ module _ {K V : Type 0} where
       weightless_off v split = two (eqb old.weight 0) refl v split
 
   -- out of its ring
-  pub resettles_out : (at : ℕ) (old new : Resident K V) (x x₁ x' : CacheShard K V) → entry_at x at ≡ Some (E.Resident old) → eqb old.weight 0 ≡ false → eqb new.weight 0 ≡ true →
+  pub resettles_out : (at : ℕ) (old new : Resident K V) (x x₁ x' : Layout K V) → entry_at x at ≡ Some (E.Resident old) → eqb old.weight 0 ≡ false → eqb new.weight 0 ≡ true →
       TurnsOut (ring_for old.state) at x x₁ → SameEntries x x₁ → Overwrites at (E.Resident new) x₁ x' → items (slots x') ≡ set (items (slots x₁)) at (Some (E.Resident new)) → hashes (slots x') ≡ hashes (slots x₁) → Resettles at new x x'
   resettles_out at old new x x₁ x' here z z' d same o is hs e p t ps shows model.hot_ring b a m eq key lies =
       let w = turned_hot shows here lies.ks lies.ds b a (subst (λ n. TurnsOut n at x x₁) (ring_of_it shows at old here Hot z (counts_in at p.hot lies.ks lies.ds lies.split)) d) same lies.split lies.before lies.after in
@@ -219,7 +173,7 @@ module _ {K V : Type 0} where
       absurd (not_off shows at old here z (omega (arith, shows.loose at, counts_in at shows.offs lies.ks lies.ds lies.split)))
 
   -- into its ring
-  pub resettles_in : (at : ℕ) (old new : Resident K V) (x x₁ x' : CacheShard K V) → entry_at x at ≡ Some (E.Resident old) → eqb old.weight 0 ≡ true → eqb new.weight 0 ≡ false →
+  pub resettles_in : (at : ℕ) (old new : Resident K V) (x x₁ x' : Layout K V) → entry_at x at ≡ Some (E.Resident old) → eqb old.weight 0 ≡ true → eqb new.weight 0 ≡ false →
       Overwrites at (E.Resident new) x x₁ → items (slots x₁) ≡ set (items (slots x)) at (Some (E.Resident new)) → hashes (slots x₁) ≡ hashes (slots x) → Appends (ring_for new.state) at x₁ x' → SameEntries x₁ x' → Resettles at new x x'
   resettles_in at old new x x₁ x' here z z' o is hs d same e p t ps shows model.hot_ring b a m eq key lies = absurd (not_ringed shows at old here Hot z (counts_in at p.hot lies.ks lies.ds lies.split))
   resettles_in at old new x x₁ x' here z z' o is hs d same e p t ps shows model.cold_ring b a m eq key lies = absurd (not_ringed shows at old here Cold z (counts_in at p.cold lies.ks lies.ds lies.split))
@@ -230,11 +184,8 @@ module _ {K V : Type 0} where
       (q.0, subst (λ u. Shows e x' q.0 u ps) (sym (settle_in b a m t z'')) q.1)
 
   -- ---- what stays
-  pub same_entries : (x : CacheShard K V) → SameEntries x x
-  same_entries x = record { items = refl; hashes = refl; tally = refl; settings = refl; issued = refl }
-
-  pub same_size : (x x' : CacheShard K V) → SameEntries x x' → length (slots x') ≡ length (slots x)
+  pub same_size : (x x' : Layout K V) → SameEntries x x' → length (slots x') ≡ length (slots x)
   same_size x x' e = sym (length-map (slots x') (λ s. s.item)) ∙ ap length e.items ∙ length-map (slots x) (λ s. s.item)
 
-  pub terms_after : (x x₁ x' : CacheShard K V) → SameEntries x x₁ → SameTerms x₁ x' → SameTerms x x'
+  pub terms_after : (x x₁ x' : Layout K V) → SameEntries x x₁ → SameTerms x₁ x' → SameTerms x x'
   terms_after x x₁ x' e t = record { settings = t.settings ∙ e.settings; issued = t.issued ∙ e.issued; size = t.size ∙ same_size x x₁ e }

@@ -1,82 +1,46 @@
 -- Reads taken in place, one by one, and a lap of the hot hand under way.
-use Rattle.std.proofs.Common.{◌≡◌, ℕ, zero, suc, ◌+◌, ◌-◌, ◌<◌, ◌≤◌, Bool, true, false, cond, not, ◌&&◌, ltb, List, [], ◌∷◌, ◌++◌, map, length, get_or, set, is_some, Some, None, Option, sym, refl, ap, ◌∙◌, subst, ⊎_elim, arith}
+use Rattle.std.proofs.Common.{◌≡◌, ℕ, zero, suc, ◌+◌, ◌-◌, ◌<◌, ◌≤◌, Bool, true, false, cond, not, ◌&&◌, List, [], ◌∷◌, ◌++◌, map, length, get_or, set, is_some, Some, None, Option, sym, refl, ap, ◌∙◌, subst, ⊎_elim, arith}
 use Rattle.std.proofs.lemmas.List.{append-nil, append_assoc, length-append, length-map, length_push, length-set, get_or-set_same, get_or-set_other, get_or-map, map-set, set-get_or}
-use Rattle.std.proofs.lemmas.Bool.{cases_eq, ltb-false, or_parts, or_left, or_right, or_from, lt-ltb, le-ltb, not-false}
+use Rattle.std.proofs.Math.Bool.{and-true}
+use Rattle.std.proofs.lemmas.Bool.{cases_eq, and_from}
+use Rattle.std.specs.List.{find}
+use Rattle.std.specs.Option.{option_map}
 use Rattle.model.specs.Lists.{sum_of, every, mapped}
 use Rattle.ring_slab.specs.Places.{look, count}
 use Rattle.ring_slab.specs.Slots.{nexts, prevs, items, item_at}
 use Rattle.ring_slab.specs.Rings.{Cycle, Ring, walk}
 use Rattle.ring_slab.specs.Holding.{SameLinks}
-use Rattle.ring_slab.specs.Calls.{slots_of}
 use Rattle.ring_slab.specs.declared.slots.Slot.{Slot}
 use Rattle.ring_slab.specs.declared.linked_slab.LinkedSlab.{LinkedSlab}
 use Rattle.ring_slab.proofs.Counts.{one_at, one_off, count_append, count_head}
 use Rattle.ring_slab.proofs.Rings.{turned}
 use Rattle.shard.specs.declared.entry.Entry.{Entry}
-use Rattle.shard.specs.declared.entry.Entry.TheVariants as E
-use Rattle.shard.specs.declared.entry.Resident.{Resident}
-use Rattle.shard.specs.declared.lap.Met.TheVariants as M
 use Rattle.shard.specs.declared.lap.Lap.TheVariants as L
-use Rattle.shard.specs.Hands.{worn, unread, reads_of, held, passes, halts, Meets, along, Worn, OnlyReads, all_reads, SameShape, Lapped, Halted}
+use Rattle.shard.specs.Hands.{worn, unread, reads_of, held, passes, halts, along, Worn, OnlyReads, all_reads, SameShape, Lapped, Halted}
 use Rattle.shard.proofs.Counts.{sum_set}
 use Rattle.shard.proofs.Views.{mapped_same, mapped_append, mapped_mapped, every_append}
-
-pub and_true : (x : Bool) → (x && true) ≡ x
-and_true true = refl
-and_true false = refl
-
-pub and_false : (x : Bool) → (x && false) ≡ false
-and_false true = refl
-and_false false = refl
 
 -- a column that a write leaves as it was
 column_kept : {A B : Type 0} (f : A → B) (l : List A) (i : ℕ) (d a : A) (e : B) → i < length l → f a ≡ f (get_or l i d) → map f (set l i a) ≡ map f l
 column_kept f l i d a e h same = map-set f l i a ∙ ap (set (map f l) i) (same ∙ sym (get_or-map f l i d e h)) ∙ set-get_or (map f l) i e
 
 module _ {K V : Type 0} where
-  -- ---- what is met
-  pub meets_pinned : (pins : K → V → Bool) (o : Option (Entry K V)) (r : Resident K V) → o ≡ Some (E.Resident r) → pins r.key r.value ≡ true → Meets pins o M.Pinned
-  meets_pinned pins o r i t = rw i (t, or_right (ltb 0 r.reads) (pins r.key r.value) t)
-
-  pub meets_unpinned : (pins : K → V → Bool) (o : Option (Entry K V)) (r : Resident K V) → o ≡ Some (E.Resident r) → pins r.key r.value ≡ false → 0 < r.reads → Meets pins o M.Unpinned
-  meets_unpinned pins o r i t z = rw i (t, or_left (ltb 0 r.reads) (pins r.key r.value) (lt-ltb 0 r.reads z), z)
-
-  pub meets_stop : (pins : K → V → Bool) (o : Option (Entry K V)) (r : Resident K V) → o ≡ Some (E.Resident r) → pins r.key r.value ≡ false → r.reads ≤ 0 → Meets pins o M.Stop
-  meets_stop pins o r i t z = rw i (or_from (ltb 0 r.reads) (pins r.key r.value) (le-ltb 0 r.reads z) t)
-
   -- ---- an entry with a read less
   pub worn_same : (o : Option (Entry K V)) → reads_of o ≤ 0 → worn o ≡ o
-  worn_same None h = refl
-  worn_same (Some (E.Resident r)) h =
-      let e : r.reads - 1 ≡ r.reads = omega arith in
-      ap (λ n. Some (E.Resident (record { key = r.key; weight = r.weight; value = r.value; state = r.state; reads = n }))) e
-  worn_same (Some (E.Placeholder p)) h = refl
-  worn_same (Some E.Ghost) h = refl
+  worn_same o h = grind arith
 
   worn_some : (o : Option (Entry K V)) → is_some (worn o) ≡ is_some o
-  worn_some None = refl
-  worn_some (Some (E.Resident r)) = refl
-  worn_some (Some (E.Placeholder p)) = refl
-  worn_some (Some E.Ghost) = refl
+  worn_some o = grind arith
 
   worn_unread : (o : Option (Entry K V)) → unread (worn o) ≡ unread o
-  worn_unread None = refl
-  worn_unread (Some (E.Resident r)) = refl
-  worn_unread (Some (E.Placeholder p)) = refl
-  worn_unread (Some E.Ghost) = refl
+  worn_unread o = grind arith
 
   worn_reads : (o : Option (Entry K V)) → reads_of (worn o) ≡ reads_of o - 1
-  worn_reads None = refl
-  worn_reads (Some (E.Resident r)) = refl
-  worn_reads (Some (E.Placeholder p)) = refl
-  worn_reads (Some E.Ghost) = refl
+  worn_reads o = grind arith
 
   -- where it stops there is no read to take
   stopped : (pins : K → V → Bool) (o : Option (Entry K V)) → passes pins o ≡ false → reads_of o ≤ 0
-  stopped pins None f = omega arith
-  stopped pins (Some (E.Resident r)) f = ltb-false 0 r.reads (or_parts (ltb 0 r.reads) (pins r.key r.value) f).0
-  stopped pins (Some (E.Placeholder p)) f = omega arith
-  stopped pins (Some E.Ghost) f = omega arith
+  stopped pins o f = grind arith
 
   -- ---- a write in place
   module _ (s s' : List (Slot (Entry K V))) (at : ℕ) (o : Option (Entry K V)) (is : items s' ≡ set (items s) at o) where
@@ -113,17 +77,16 @@ module _ {K V : Type 0} where
 
   -- ---- links that stay
   pub links_refl : (s : List (Slot (Entry K V))) → SameLinks s s
-  links_refl s = record { len = refl; buckets = refl; chains = refl; nexts = refl; prevs = refl; hashes = refl; some = λ k. refl }
+  links_refl s = grind arith
 
   pub links_trans : {s s' s'' : List (Slot (Entry K V))} → SameLinks s s' → SameLinks s' s'' → SameLinks s s''
-  links_trans a b =
-      record { len = b.len ∙ a.len; buckets = b.buckets ∙ a.buckets; chains = b.chains ∙ a.chains; nexts = b.nexts ∙ a.nexts; prevs = b.prevs ∙ a.prevs; hashes = b.hashes ∙ a.hashes; some = λ k. b.some k ∙ a.some k }
+  links_trans a b = grind arith
 
   pub shape_refl : (m : LinkedSlab (Entry K V)) → SameShape m m
-  shape_refl m = record { links = links_refl (slots_of m); free = refl; used = refl }
+  shape_refl m = grind (arith, links_refl)
 
   pub shape_trans : {m m' m'' : LinkedSlab (Entry K V)} → SameShape m m' → SameShape m' m'' → SameShape m m''
-  shape_trans a b = record { links = links_trans a.links b.links; free = b.free ∙ a.free; used = b.used ∙ a.used }
+  shape_trans a b = grind (arith, links_trans)
 
   -- ---- reads taken along a list
   pub worn_more : (s₀ s s' : List (Slot (Entry K V))) (a : List ℕ) (at : ℕ) → Worn a s₀ s → count at a ≡ 0 → at < length s → items s' ≡ set (items s) at (worn (item_at s at)) → Worn (a ++ at ∷ []) s₀ s'
@@ -167,7 +130,7 @@ next_leads n p a at (y ∷ ys) r = (turned n p a (at ∷ y ∷ ys) r).0
 
 leads_is : (b : List ℕ) (at : ℕ) → Leads b at → 0 < length b → (rest : List ℕ) × (b ≡ at ∷ rest)
 leads_is [] at h l = absurd (omega arith)
-leads_is (x ∷ xs) at h l = (xs, ap (λ z. z ∷ xs) (sym h))
+leads_is (x ∷ xs) at h l = (xs, cc)
 
 -- A walk round the ring xs of s has passed the places a, and stands at the first of b.
 pub record Walking {T : Type 0} (s : List (Slot T)) (xs : List ℕ) (at i : ℕ) : Type 0 where
@@ -231,12 +194,10 @@ module _ {K V : Type 0} where
     mid_start at h = record { walking = walking_start s xs at h; links = links_refl s; passed = refl; all_held = refl; fewer = omega arith; worn_a = λ k. (λ z. absurd (omega arith), λ _. refl) }
 
     every_more : (f : Option (Entry K V) → Bool) (a : List ℕ) (at : ℕ) (x y : Bool) → every f (along s a) ≡ x → f (item_at s at) ≡ y → every f (along s (a ++ at ∷ [])) ≡ (x && y)
-    every_more f a at x y e g = ap (every f) (mapped_append (item_at s) a (at ∷ [])) ∙ every_append f (along s a) (item_at s at ∷ []) ∙ rw (e, g) (ap (λ z. x && z) (and_true y))
+    every_more f a at x y e g = ap (every f) (mapped_append (item_at s) a (at ∷ [])) ∙ every_append f (along s a) (item_at s at ∷ []) ∙ rw (e, g) (ap (λ z. x && z) (and-true y))
 
     fewer_more : (all h : Bool) (t₀ t t'' r : ℕ) → t + cond all 0 1 ≤ t₀ → cond h 0 1 ≤ r → t'' + r ≡ t + (r - 1) → t'' + cond (all && h) 0 1 ≤ t₀
-    fewer_more true true t₀ t t'' r f d e = omega arith
-    fewer_more true false t₀ t t'' r f d e = omega arith
-    fewer_more false h t₀ t t'' r f d e = omega arith
+    fewer_more all h t₀ t t'' r f d e = grind arith
 
     -- one more is passed
     pub mid_more : (s' s'' : List (Slot (Entry K V))) (at next i : ℕ) (all h : Bool) → Ring s xs → i < length xs → Mid pins xs s s' at i all
@@ -280,23 +241,18 @@ module _ {K V : Type 0} where
         let e = walking_end s xs at i l m.walking in
         (ap (λ z. every (held pins) (along s z)) e ∙ m.all_held, subst (λ z. Worn z s s') (sym e) m.worn_a)
 
-  -- ---- a lap of the cold hand under way: those passed are pinned, without reads
-  pub record Cooling (pins : K → V → Bool) (xs : List ℕ) (s : List (Slot (Entry K V))) (at i : ℕ) : Type 0 where
-    pub walking : Walking s xs at i
-    pub passed : every (λ o. not (halts pins o)) (along s walking.a) ≡ true
+  -- ---- where the cold hand stops: those passed are pinned, without reads
+  module _ (pins : K → V → Bool) (s : List (Slot (Entry K V))) where
+    halted_more : (k : ℕ) (ks : List ℕ) (r : Option ℕ) (h : Bool) → halts pins (item_at s k) ≡ h → Halted pins ks s r → Halted pins (k ∷ ks) s (cond (not (not h)) (Some k) r)
+    halted_more k ks r true e w = ([], ks, refl, refl, e)
+    halted_more k ks None false e w = and_from _ _ (ap not e) w
+    halted_more k ks (Some at) false e w = (k ∷ w.0, w.1, ap (λ l. k ∷ l) w.2, and_from _ _ (ap not e) w.3, w.4)
 
-  module _ (pins : K → V → Bool) (xs : List ℕ) (s : List (Slot (Entry K V))) where
-    pub cooling_start : (at : ℕ) → Leads xs at → Cooling pins xs s at 0
-    unfolding walking_start
-    cooling_start at h = record { walking = walking_start s xs at h; passed = refl }
+    halted_first : (ks : List ℕ) → Halted pins ks s (find (λ k. not (not (halts pins (item_at s k)))) ks)
+    halted_first [] = refl
+    halted_first (k ∷ ks) = halted_more k ks _ (halts pins (item_at s k)) refl (halted_first ks)
 
-    pub cooling_on : (at next i : ℕ) → Ring s xs → i < length xs → Cooling pins xs s at i → not (halts pins (item_at s at)) ≡ true → next ≡ look (nexts s) at → Cooling pins xs s next (i + 1)
-    unfolding walking_on
-    cooling_on at next i r l m go nx =
-        record { walking = walking_on s xs at next i r l m.walking nx; passed = every_more pins xs s (λ o. not (halts pins o)) m.walking.a at true true m.passed go }
-
-    pub cooling_stop : (at i : ℕ) → Ring s xs → i < length xs → Cooling pins xs s at i → not (halts pins (item_at s at)) ≡ false → Halted pins xs s (Some at)
-    cooling_stop at i r l m stop = let t = standing s xs at i r l m.walking in (m.walking.a, t.rest, t.whole, m.passed, not-false (halts pins (item_at s at)) stop)
-
-    pub cooling_end : (at i : ℕ) → length xs ≤ i → Cooling pins xs s at i → Halted pins xs s None
-    cooling_end at i l m = ap (λ z. every (λ o. not (halts pins o)) (along s z)) (walking_end s xs at i l m.walking) ∙ m.passed
+    -- the first place that is not gone past
+    pub halted_found : (ks : List ℕ) (r : Option ℕ) → option_map (λ x. x) r ≡ find (λ k. not (not (halts pins (item_at s k)))) ks → Halted pins ks s r
+    halted_found ks None e = subst (Halted pins ks s) (sym e) (halted_first ks)
+    halted_found ks (Some at) e = subst (Halted pins ks s) (sym e) (halted_first ks)

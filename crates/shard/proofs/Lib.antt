@@ -6,6 +6,7 @@ pub mod Chains
 pub mod Coding
 pub mod Counts
 pub mod Evictions
+pub mod Finding
 pub mod Inserted
 pub mod Inserting
 pub mod Laps

@@ -1,10 +1,10 @@
 -- What linking, filling and freeing a slot makes of where the entries lie.
-use Rattle.std.proofs.Common.{◌≡◌, ℕ, zero, suc, ◌+◌, ◌-◌, ◌<◌, ◌≤◌, ◌⊎◌, List, [], ◌∷◌, ◌++◌, length, get_or, set, Some, None, Option, sym, refl, ap, ◌∙◌, subst, inl, inr, ⊎_elim, arith}
+use Rattle.std.proofs.Common.{◌≡◌, ℕ, ◌+◌, ◌-◌, ◌<◌, ◌≤◌, ◌⊎◌, List, [], ◌∷◌, ◌++◌, length, get_or, set, Some, None, Option, sym, refl, ap, ◌∙◌, subst, inl, inr, ⊎_elim, arith}
 use Rattle.std.proofs.lemmas.List.{length-append, length-map, append-nil, get_or_past, get_or-set_same, get_or-set_other}
 use Rattle.std.proofs.lemmas.Bool.{cases_lt, cases_eq}
 use Rattle.ring_slab.specs.Places.{one, count, count_in, head_of, front, rest, upto}
 use Rattle.ring_slab.specs.Slots.{items, item_at, hashes}
-use Rattle.ring_slab.specs.Rings.{ring_from, Linked, Linkable}
+use Rattle.ring_slab.specs.Rings.{Linked, Linkable}
 use Rattle.ring_slab.specs.Chains.{Chained}
 use Rattle.ring_slab.specs.Holding.{Holds}
 use Rattle.ring_slab.specs.Calls.{slots_of, Held, Fresh, Takes, Frees, Links, Unlinks, Enters, Leaves, Stores}
@@ -20,12 +20,11 @@ use Rattle.shard.specs.declared.entry.Entry.{Entry}
 use Rattle.shard.specs.declared.ring.Ring.{Ring}
 use Rattle.shard.specs.declared.ring.RingName.{RingName}
 use Rattle.shard.specs.declared.ring.RingName.TheVariants.{Hot, Cold, Ghosts}
-use Rattle.shard.specs.declared.cache_shard.CacheShard.{CacheShard}
+use Rattle.shard.specs.declared.layout.Layout.{Layout}
 use Rattle.shard.specs.declared.tally.Tally.{Tally}
 use Rattle.shard.specs.Tallies.{hot_one, cold_one, ghost_one, hot_share, cold_share, recounted, counted_in}
 use Rattle.shard.specs.Layout.{Places, ring_at, ringed, freed, used, Begins, Kind, in_ring, off_rings, kind_of, slots, entry_at, ring, with_ring, Laid, Ranked, Counted, Stands, ring_places, vacant_places, places, Sound, SameEntries}
 use Rattle.shard.specs.Moves.{handed, Appends, TurnsOut, Deletes, Occupies, Overwrites, Releases}
-use Rattle.shard.specs.Steps.{SameTerms}
 use Rattle.shard.proofs.Counts.{sum_at_most, front_none, front_some, front_handed, count_front}
 use Rattle.shard.proofs.Tallies.{Small, counted_none, recounted_over}
 use Rattle.shard.proofs.Standing.{recast, count_used, places_most, kind_in_ring, size_bound, ring_begins, hand_below, vacant_below, vacant_none, stands_sound, sound_with, still_counted, still_ranked}
@@ -69,28 +68,19 @@ turned {s} before after a b w =
       size = w.size;
     }
 
--- a ring with a place in it is not empty
-walk_some : {T : Type 0} (s : List (Slot T)) (h : Option ℕ) (m at : ℕ) → 1 ≤ count at (ring_from s h m) → 1 ≤ m
-walk_some s None m at there = absurd (omega arith)
-walk_some s (Some h) zero at there = absurd (omega arith)
-walk_some s (Some h) (suc m) at there = omega arith
-
 module _ {K V : Type 0} where
-  abbrev pub with_slab : LinkedSlab (Entry K V) → CacheShard K V → CacheShard K V
+  abbrev pub with_slab : LinkedSlab (Entry K V) → Layout K V → Layout K V
   with_slab m x = record { slab = m; settings = x.settings; hot = x.hot; cold = x.cold; ghosts = x.ghosts; tally = x.tally; issued = x.issued }
 
-  ring_of_places : (n : RingName) (x : CacheShard K V) (h : List ℕ) → ring_at n (places x h) ≡ ring_places n x
+  ring_of_places : (n : RingName) (x : Layout K V) (h : List ℕ) → ring_at n (places x h) ≡ ring_places n x
   ring_of_places Hot x h = refl
   ring_of_places Cold x h = refl
   ring_of_places Ghosts x h = refl
 
-  pub ring_some : (n : RingName) (x : CacheShard K V) (r : Ring) (at : ℕ) → r ≡ ring n x → 1 ≤ count at (ring_places n x) → 1 ≤ r.len
-  ring_some n x r at is there = omega (arith, ap (λ r. r.len) is, walk_some (slots x) (ring n x).head (ring n x).len at there)
-
-  pub in_places : (n : RingName) (x : CacheShard K V) (h : List ℕ) (at : ℕ) → 1 ≤ count at (ring_places n x) → 1 ≤ count at (ring_at n (places x h))
+  pub in_places : (n : RingName) (x : Layout K V) (h : List ℕ) (at : ℕ) → 1 ≤ count at (ring_places n x) → 1 ≤ count at (ring_at n (places x h))
   in_places n x h at there = omega (arith, ap (count at) (ring_of_places n x h))
 
-  module _ {x : CacheShard K V} {p : Places} (w : Stands x p) where
+  module _ {x : Layout K V} {p : Places} (w : Stands x p) where
     -- what the slab holds, with that ring in the middle
     held_around : (n : RingName) (h : List ℕ) → p.hand ≡ h → Held x.slab (before_ring n p ++ ring_at n p ∷ after_ring n p) (h ++ p.loose) p.vacant (used p)
     held_around n h e =
@@ -111,7 +101,7 @@ module _ {K V : Type 0} where
     can_link n at h = subst (Linkable (slots x) at) (sym (ring_begins w n).head) (holding.linkable (before_ring n p) (after_ring n p) (ring_at n p) (held_around n p.hand refl) at h)
 
   -- ---- one ring changes, and what is in hand
-  relaid : (n : RingName) (x : CacheShard K V) (m : LinkedSlab (Entry K V)) (r : Ring) (p : Places) (xs h : List ℕ) → Laid x p → Held m (before_ring n p ++ xs ∷ after_ring n p) (h ++ p.loose) p.vacant (used p) → Begins r xs → ((k : ℕ) → count k xs + count k h ≡ count k (ring_at n p) + count k p.hand) → Laid (with_ring n r (with_slab m x)) (ringed n xs h p)
+  relaid : (n : RingName) (x : Layout K V) (m : LinkedSlab (Entry K V)) (r : Ring) (p : Places) (xs h : List ℕ) → Laid x p → Held m (before_ring n p ++ xs ∷ after_ring n p) (h ++ p.loose) p.vacant (used p) → Begins r xs → ((k : ℕ) → count k xs + count k h ≡ count k (ring_at n p) + count k p.hand) → Laid (with_ring n r (with_slab m x)) (ringed n xs h p)
   relaid Hot x m r p xs h w held b same =
       record {
         held = recast (h ++ p.loose) (used (ringed Hot xs h p)) held (λ k. refl) (λ k. omega (arith, count_used k p, count_used k (ringed Hot xs h p), same k));
@@ -134,21 +124,18 @@ module _ {K V : Type 0} where
         ghosts = b;
       }
 
-  reranked : (n : RingName) {x : CacheShard K V} {p : Places} (xs h : List ℕ) → Ranked x p → ((k : ℕ) → 1 ≤ count k xs → kind_of (entry_at x k) ≡ in_ring n) → Ranked x (ringed n xs h p)
+  reranked : (n : RingName) {x : Layout K V} {p : Places} (xs h : List ℕ) → Ranked x p → ((k : ℕ) → 1 ≤ count k xs → kind_of (entry_at x k) ≡ in_ring n) → Ranked x (ringed n xs h p)
   reranked Hot xs h w kinds = record { hot = kinds; cold = w.cold; ghosts = w.ghosts; loose = w.loose }
   reranked Cold xs h w kinds = record { hot = w.hot; cold = kinds; ghosts = w.ghosts; loose = w.loose }
   reranked Ghosts xs h w kinds = record { hot = w.hot; cold = w.cold; ghosts = kinds; loose = w.loose }
 
   -- links change, and entries stay
-  entries_stay : (n : RingName) (x : CacheShard K V) (m : LinkedSlab (Entry K V)) (r : Ring) → items (slots_of m) ≡ items (slots x) → hashes (slots_of m) ≡ hashes (slots x) → SameEntries x (with_ring n r (with_slab m x))
+  entries_stay : (n : RingName) (x : Layout K V) (m : LinkedSlab (Entry K V)) (r : Ring) → items (slots_of m) ≡ items (slots x) → hashes (slots_of m) ≡ hashes (slots x) → SameEntries x (with_ring n r (with_slab m x))
   entries_stay Hot x m r is hs = record { items = is; hashes = hs; tally = refl; settings = refl; issued = refl }
   entries_stay Cold x m r is hs = record { items = is; hashes = hs; tally = refl; settings = refl; issued = refl }
   entries_stay Ghosts x m r is hs = record { items = is; hashes = hs; tally = refl; settings = refl; issued = refl }
 
-  pub relinked_entries : (n : RingName) (x x' : CacheShard K V) (m : LinkedSlab (Entry K V)) (r : Ring) → items (slots_of m) ≡ items (slots x) → hashes (slots_of m) ≡ hashes (slots x) → x' ≡ with_ring n r (with_slab m x) → SameEntries x x'
-  relinked_entries n x x' m r is hs after = subst (SameEntries x) (sym after) (entries_stay n x m r is hs)
-
-  restood : (n : RingName) (x : CacheShard K V) (m : LinkedSlab (Entry K V)) (r : Ring) (p : Places) (xs h : List ℕ) → items (slots_of m) ≡ items (slots x) → hashes (slots_of m) ≡ hashes (slots x) → Stands x p → Held m (before_ring n p ++ xs ∷ after_ring n p) (h ++ p.loose) p.vacant (used p) → Begins r xs → ((k : ℕ) → count k xs + count k h ≡ count k (ring_at n p) + count k p.hand) → ((k : ℕ) → 1 ≤ count k xs → kind_of (entry_at x k) ≡ in_ring n) → Stands (with_ring n r (with_slab m x)) (ringed n xs h p)
+  restood : (n : RingName) (x : Layout K V) (m : LinkedSlab (Entry K V)) (r : Ring) (p : Places) (xs h : List ℕ) → items (slots_of m) ≡ items (slots x) → hashes (slots_of m) ≡ hashes (slots x) → Stands x p → Held m (before_ring n p ++ xs ∷ after_ring n p) (h ++ p.loose) p.vacant (used p) → Begins r xs → ((k : ℕ) → count k xs + count k h ≡ count k (ring_at n p) + count k p.hand) → ((k : ℕ) → 1 ≤ count k xs → kind_of (entry_at x k) ≡ in_ring n) → Stands (with_ring n r (with_slab m x)) (ringed n xs h p)
   restood n x m r p xs h is hs w held b same kinds =
       let e = entries_stay n x m r is hs in
       record {
@@ -158,7 +145,7 @@ module _ {K V : Type 0} where
       }
 
   -- ---- append
-  module _ (n : RingName) (at : ℕ) (x x' : CacheShard K V) (m : LinkedSlab (Entry K V)) (old : Ring) (head : ℕ) (is_old : old ≡ ring n x) (lists : Links x.slab m at old.head head) (is : items (slots_of m) ≡ items (slots x)) (hs : hashes (slots_of m) ≡ hashes (slots x)) (after : x' ≡ with_ring n (record { head = Some head; len = old.len + 1 }) (with_slab m x)) (kind : kind_of (entry_at x at) ≡ in_ring n) where
+  module _ (n : RingName) (at : ℕ) (x x' : Layout K V) (m : LinkedSlab (Entry K V)) (old : Ring) (head : ℕ) (is_old : old ≡ ring n x) (lists : Links x.slab m at old.head head) (is : items (slots_of m) ≡ items (slots x)) (hs : hashes (slots_of m) ≡ hashes (slots x)) (after : x' ≡ with_ring n (record { head = Some head; len = old.len + 1 }) (with_slab m x)) (kind : kind_of (entry_at x at) ≡ in_ring n) where
     pub append_places : Appends n at x x'
     append_places p w hand =
         let xs = ring_at n p in
@@ -174,15 +161,12 @@ module _ {K V : Type 0} where
         (λ ne. kind_in_ring w n k (omega (arith, push k, one_off k at ne)))
         (cases_eq k at)))
 
-    pub append_sound : Sound x (at ∷ []) → Sound x' []
-    append_sound w = sound_with (append_places (places x (at ∷ [])) w refl) [] (hand_now n _ [] (places x (at ∷ [])))
-
   -- ---- a place leaves its ring
   -- a ring after `at` has left it is what is left of it
-  left_kinds : (n : RingName) {x : CacheShard K V} {p : Places} (at : ℕ) (a b xs : List ℕ) → Stands x p → ring_at n p ≡ a ++ at ∷ b → ((k : ℕ) → count k xs ≡ count k (a ++ b)) → (k : ℕ) → 1 ≤ count k xs → kind_of (entry_at x k) ≡ in_ring n
+  left_kinds : (n : RingName) {x : Layout K V} {p : Places} (at : ℕ) (a b xs : List ℕ) → Stands x p → ring_at n p ≡ a ++ at ∷ b → ((k : ℕ) → count k xs ≡ count k (a ++ b)) → (k : ℕ) → 1 ≤ count k xs → kind_of (entry_at x k) ≡ in_ring n
   left_kinds n at a b xs w split same k h = kind_in_ring w n k (omega (arith, ap (count k) split, count_less k at a b, same k))
 
-  module _ (n : RingName) (at : ℕ) (x x' : CacheShard K V) (m : LinkedSlab (Entry K V)) (old : Ring) (next : Option ℕ) (is_old : old ≡ ring n x) (lists : Unlinks x.slab m at next) (is : items (slots_of m) ≡ items (slots x)) (hs : hashes (slots_of m) ≡ hashes (slots x)) where
+  module _ (n : RingName) (at : ℕ) (x x' : Layout K V) (m : LinkedSlab (Entry K V)) (old : Ring) (next : Option ℕ) (is_old : old ≡ ring n x) (lists : Unlinks x.slab m at next) (is : items (slots_of m) ≡ items (slots x)) (hs : hashes (slots_of m) ≡ hashes (slots x)) where
     module _ (after : x' ≡ with_ring n (record { head = next; len = old.len - 1 }) (with_slab m x)) where
       pub turn_out_places : TurnsOut n at x x'
       turn_out_places p a b w hand split =
@@ -193,11 +177,6 @@ module _ {K V : Type 0} where
           (record { head = q.1; len = omega (arith, ap (λ r. r.len) is_old, r.len, ap length split, length-append a (at ∷ b), length-append b a) })
           (λ k. omega (arith, ap (count k) split, count_less k at a b, count_turned k a b, ap (count k) hand))
           (left_kinds n at a b (b ++ a) w split (λ k. count_turned k b a)))
-
-      pub turn_out_sound : Sound x [] → 1 ≤ count at (ring_places n x) → Sound x' (at ∷ [])
-      turn_out_sound w there =
-          let q = split_at at (ring_places n x) there in
-          sound_with (turn_out_places (places x []) q.0 q.1 w refl (ring_of_places n x [] ∙ q.2)) (at ∷ []) (hand_now n _ (at ∷ []) (places x []))
 
     -- the head, as long as it stays
     module _ (head : Option ℕ) (stays : (h : ℕ) → old.head ≡ Some h → (h ≡ at → ⊥) → head ≡ Some h) (goes : old.head ≡ Some at → head ≡ next) (after : x' ≡ with_ring n (record { head = head; len = old.len - 1 }) (with_slab m x)) where
@@ -217,20 +196,12 @@ module _ {K V : Type 0} where
           (λ k. omega (arith, ap (count k) split, count_less k at a b, ap (count k) hand))
           (left_kinds n at a b (a ++ b) w split (λ k. refl)))
 
-      pub delete_sound : Sound x [] → 1 ≤ count at (ring_places n x) → Sound x' (at ∷ [])
-      delete_sound w there =
-          let q = split_at at (ring_places n x) there in
-          sound_with (delete_places (places x []) q.0 q.1 w refl (ring_of_places n x [] ∙ q.2)) (at ∷ []) (hand_now n _ (at ∷ []) (places x []))
-
   -- ---- an entry is written
   -- the shard with another slab and another tally
-  abbrev pub refilled : LinkedSlab (Entry K V) → Tally → CacheShard K V → CacheShard K V
+  abbrev pub refilled : LinkedSlab (Entry K V) → Tally → Layout K V → Layout K V
   refilled m t x = record { slab = m; settings = x.settings; hot = x.hot; cold = x.cold; ghosts = x.ghosts; tally = t; issued = x.issued }
 
-  pub refilled_terms : (x : CacheShard K V) (m : LinkedSlab (Entry K V)) (t : Tally) → length (slots_of m) ≡ length (slots x) → SameTerms x (refilled m t x)
-  refilled_terms x m t size = record { settings = refl; issued = refl; size = size }
-
-  module _ (x x' : CacheShard K V) (at : ℕ) (new : Option (Entry K V)) (place : at < length (slots x)) (is : items (slots x') ≡ set (items (slots x)) at new) where
+  module _ (x x' : Layout K V) (at : ℕ) (new : Option (Entry K V)) (place : at < length (slots x)) (is : items (slots x') ≡ set (items (slots x)) at new) where
     pub entry_written : entry_at x' at ≡ new
     entry_written = ap (λ l. get_or l at None) is ∙ get_or-set_same (items (slots x)) at new None (omega (arith, length-map (slots x) (λ e. e.item)))
 
@@ -268,7 +239,7 @@ module _ {K V : Type 0} where
 
   -- ---- overwrite
   -- o is the old entry, and t the tally without it
-  pub overwrite_places : (at : ℕ) (new : Entry K V) (x : CacheShard K V) (m : LinkedSlab (Entry K V)) (o : Option (Entry K V)) (t r : Tally) → at < length (slots x) → Stores x.slab m at → items (slots_of m) ≡ set (items (slots x)) at (Some new) → o ≡ entry_at x at → counted_in o t ≡ x.tally → r ≡ counted_in (Some new) t → Small (Some new) → Overwrites at new x (refilled m r x)
+  pub overwrite_places : (at : ℕ) (new : Entry K V) (x : Layout K V) (m : LinkedSlab (Entry K V)) (o : Option (Entry K V)) (t r : Tally) → at < length (slots x) → Stores x.slab m at → items (slots_of m) ≡ set (items (slots x)) at (Some new) → o ≡ entry_at x at → counted_in o t ≡ x.tally → r ≡ counted_in (Some new) t → Small (Some new) → Overwrites at new x (refilled m r x)
   overwrite_places at new x m o t r place lists is is_o before is_r small p w fits out =
       let y = refilled m r x in
       record {
@@ -278,7 +249,7 @@ module _ {K V : Type 0} where
       }
 
   -- ---- release
-  module _ (at : ℕ) {x : CacheShard K V} {p : Places} (w : Stands x p) (hand : p.hand ≡ at ∷ []) where
+  module _ (at : ℕ) {x : Layout K V} {p : Places} (w : Stands x p) (hand : p.hand ≡ at ∷ []) where
     hand_there : 1 ≤ count at p.hand
     hand_there = omega (arith, ap (count at) hand, one_at at at refl)
 
@@ -302,7 +273,7 @@ module _ {K V : Type 0} where
       can_free = holding.freeable unchained at (omega (arith, one_at at at refl))
 
   -- o is the entry that goes, and t the tally without it
-  module _ (at : ℕ) (x : CacheShard K V) (m m' : LinkedSlab (Entry K V)) (o : Option (Entry K V)) (t : Tally) (b : ℕ) (leaves : Leaves x.slab m at b) (frees : Frees m m' at) (is : items (slots_of m) ≡ items (slots x)) (is' : items (slots_of m') ≡ set (items (slots_of m)) at None) (is_o : o ≡ item_at (slots_of m) at) (before : counted_in o t ≡ x.tally) where
+  module _ (at : ℕ) (x : Layout K V) (m m' : LinkedSlab (Entry K V)) (o : Option (Entry K V)) (t : Tally) (b : ℕ) (leaves : Leaves x.slab m at b) (frees : Frees m m' at) (is : items (slots_of m) ≡ items (slots x)) (is' : items (slots_of m') ≡ set (items (slots_of m)) at None) (is_o : o ≡ item_at (slots_of m) at) (before : counted_in o t ≡ x.tally) where
     pub release_places : Releases at x (refilled m' t x)
     release_places p w hand =
         let y = refilled m' t x in
@@ -322,24 +293,39 @@ module _ {K V : Type 0} where
           counted = counted_over x y at None place written t (ap (λ o. counted_in o t) (sym (is_o ∙ ap (λ l. get_or l at None) is)) ∙ before) (counted_none {K = K} {V = V} None t refl) (omega arith, omega arith) w.counted;
         }
 
-    pub release_sound : Sound x (at ∷ []) → Sound (refilled m' t x) []
-    release_sound w = sound_with (release_places (places x (at ∷ [])) w refl) [] refl
+  -- ---- what `append`, `turn_out`, `delete` and `release` say of every list of places, of the lists of the shard
+  module _ (n : RingName) (at : ℕ) (x x' : Layout K V) where
+    pub append_sound : Appends n at x x' → Sound x (at ∷ []) → Sound x' []
+    append_sound appends w = sound_with (appends (places x (at ∷ [])) w refl) [] (hand_now n _ [] (places x (at ∷ [])))
+
+    pub turn_out_sound : TurnsOut n at x x' → Sound x [] → 1 ≤ count at (ring_places n x) → Sound x' (at ∷ [])
+    turn_out_sound turns w there =
+        let q = split_at at (ring_places n x) there in
+        sound_with (turns (places x []) q.0 q.1 w refl (ring_of_places n x [] ∙ q.2)) (at ∷ []) (hand_now n _ (at ∷ []) (places x []))
+
+    pub delete_sound : Deletes n at x x' → Sound x [] → 1 ≤ count at (ring_places n x) → Sound x' (at ∷ [])
+    delete_sound deletes w there =
+        let q = split_at at (ring_places n x) there in
+        sound_with (deletes (places x []) q.0 q.1 w refl (ring_of_places n x [] ∙ q.2)) (at ∷ []) (hand_now n _ (at ∷ []) (places x []))
+
+  pub release_sound : (at : ℕ) (x x' : Layout K V) → Releases at x x' → Sound x (at ∷ []) → Sound x' []
+  release_sound at x x' releases w = sound_with (releases (places x (at ∷ [])) w refl) [] refl
 
   -- ---- occupy
   -- what `occupy` says of every list of places, of the lists of the shard
-  pub occupied_sound : (r : Option ℕ) (x x' : CacheShard K V) → Occupies r x x' → Sound x [] → Sound x' (handed r)
+  pub occupied_sound : (r : Option ℕ) (x x' : Layout K V) → Occupies r x x' → Sound x [] → Sound x' (handed r)
   occupied_sound r x x' occupies w =
       let q = occupies (places x []) w refl in
       sound_with q.1 (handed r) (front_handed (vacant_places x) r q.0)
 
-  module _ (x : CacheShard K V) (m : LinkedSlab (Entry K V)) (r : Option ℕ) (takes : Takes x.slab m r) where
+  module _ (x : Layout K V) (m : LinkedSlab (Entry K V)) (r : Option ℕ) (takes : Takes x.slab m r) where
     -- the slab with that place taken
     taken : (p : Places) → Stands x p → p.hand ≡ [] → (r ≡ head_of p.vacant) × Held m (p.hot ∷ p.cold ∷ p.ghosts ∷ []) (front p.vacant ++ p.loose) (rest p.vacant) (used p)
     taken p w hand =
         takes (p.hot ∷ p.cold ∷ p.ghosts ∷ []) p.loose p.vacant (used p) (subst (λ h. Held x.slab (p.hot ∷ p.cold ∷ p.ghosts ∷ []) (h ++ p.loose) p.vacant (used p)) hand w.laid.held)
 
   -- no slot is free
-  module _ (x : CacheShard K V) (m : LinkedSlab (Entry K V)) (takes : Takes x.slab m None) (is : items (slots_of m) ≡ items (slots x)) (hs : hashes (slots_of m) ≡ hashes (slots x)) where
+  module _ (x : Layout K V) (m : LinkedSlab (Entry K V)) (takes : Takes x.slab m None) (is : items (slots_of m) ≡ items (slots x)) (hs : hashes (slots_of m) ≡ hashes (slots x)) where
     pub occupy_none : Occupies None x (with_slab m x)
     occupy_none p w hand =
         let q = taken x m None takes p w hand in
@@ -360,7 +346,7 @@ module _ {K V : Type 0} where
         )
 
   -- the place `at` was free
-  module _ (at : ℕ) (new : Entry K V) (x : CacheShard K V) (m : LinkedSlab (Entry K V)) (takes : Takes x.slab m (Some at)) where
+  module _ (at : ℕ) (new : Entry K V) (x : Layout K V) (m : LinkedSlab (Entry K V)) (takes : Takes x.slab m (Some at)) where
     -- it is a slot, entered nowhere
     vacant_first : (p : Places) → Stands x p → p.hand ≡ [] → 1 ≤ count at p.vacant
     vacant_first p w hand = omega (arith, count_front at p.vacant, ap (count at) (front_some p.vacant at (taken x m (Some at) takes p w hand).0), one_at at at refl)
@@ -397,7 +383,7 @@ module _ {K V : Type 0} where
 
   -- ---- a fresh shard
   module _ (m : LinkedSlab (Entry K V)) (settings : Settings) (issued : ℕ) (fresh : Fresh m) where
-    abbrev pub fresh_shard : CacheShard K V
+    abbrev pub fresh_shard : Layout K V
     fresh_shard =
         record {
           slab = m;

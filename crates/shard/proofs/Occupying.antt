@@ -1,22 +1,20 @@
 -- A free slot is filled, and how many slots are used.
-use Rattle.std.proofs.Common.{◌≡◌, ℕ, suc, ◌+◌, ◌<◌, ◌≤◌, Bool, true, false, cond, leb, List, [], ◌∷◌, length, get_or, set, is_some, Some, None, sym, refl, ap, ◌∙◌, subst, ⊎_elim, arith}
+use Rattle.std.proofs.Common.{◌≡◌, ℕ, ◌+◌, ◌<◌, ◌≤◌, Bool, cond, leb, List, [], length, get_or, set, Some, None, sym, refl, ap, ◌∙◌, subst, ⊎_elim, arith}
 use Rattle.std.proofs.lemmas.List.{length-map, get_or-set_same, get_or-set_other}
-use Rattle.std.proofs.lemmas.Bool.{cases_eq, both_ways}
+use Rattle.std.proofs.lemmas.Bool.{cases_eq}
 use Rattle.interface.specs.Meaning.{Keying, Life}
 use Rattle.settings.specs.Standing.{limits}
 use Rattle.model.specs.Entries as model
 use Rattle.model.specs.Hands.{shrink}
 use Rattle.model.specs.Calls as calls
-use Rattle.model.specs.Calls.{State}
 use Rattle.ring_slab.specs.Places.{count, head_of, front, rest}
 use Rattle.ring_slab.specs.Slots.{items, hashes}
 use Rattle.ring_slab.proofs.Counts.{one_at}
 use Rattle.shard.specs.declared.entry.Resident.{Resident}
 use Rattle.shard.specs.declared.entry.Entry.{Entry}
 use Rattle.shard.specs.declared.entry.Entry.TheVariants as E
-use Rattle.shard.specs.declared.entry.ResidentState.{ResidentState}
 use Rattle.shard.specs.declared.entry.ResidentState.TheVariants as R
-use Rattle.shard.specs.declared.cache_shard.CacheShard.{CacheShard}
+use Rattle.shard.specs.declared.layout.Layout.{Layout}
 use Rattle.shard.specs.Layout.{Places, freed, slots, entry_at, hash_at, places, vacant_places, Sound}
 use Rattle.shard.specs.Moves.{Occupies}
 use Rattle.shard.specs.Shows.{plain, part, Hashed, Keyed, Shows}
@@ -28,39 +26,31 @@ use Rattle.shard.proofs.Counts.{front_some, count_front}
 use Rattle.shard.proofs.Standing.{places_most, vacant_below}
 use Rattle.shard.proofs.Views.{mapped_same, entry_set, entry_other, seen_off}
 use Rattle.shard.proofs.Sums.{tally_weights}
-use Rattle.shard.proofs.Arriving.{shrunk_from}
+use Rattle.shard.proofs.Arriving.{stage_on, shrunk_from}
 
 -- the state that a test for room answers
 pub part_of : (b : Bool) → cond b R.Hot R.Cold ≡ part b
-part_of true = refl
-part_of false = refl
-
-pub hot_part : (b b' : Bool) (o : ResidentState) → b ≡ b' → b ≡ true → R.Hot ≡ cond b' R.Hot o
-hot_part b b' o is z = sym (ap (λ (t : Bool). cond t R.Hot o) (sym is ∙ z))
-
-pub other_part : (b b' : Bool) (o : ResidentState) → b ≡ b' → b ≡ false → o ≡ cond b' R.Hot o
-other_part b b' o is z = sym (ap (λ (t : Bool). cond t R.Hot o) (sym is ∙ z))
+part_of b = grind arith
 
 headless : (xs : List ℕ) → None ≡ head_of xs → length xs ≡ 0
-headless [] e = refl
-headless (x ∷ xs) e = absurd (both_ways true (ap is_some (sym e)) refl)
+headless xs e = grind arith
 
 head_count : (xs : List ℕ) (at : ℕ) → Some at ≡ head_of xs → 1 ≤ count at xs
 head_count xs at e = omega (arith, count_front at xs, ap (count at) (front_some xs at e), one_at at at refl)
 
 module _ {K V : Type 0} where
   -- a free slot is found where there is one
-  pub no_none : (x x' : CacheShard K V) → Sound x [] → Occupies None x x' → x.slab.used < length (slots x) → ⊥
+  pub no_none : (x x' : Layout K V) → Sound x [] → Occupies None x x' → x.slab.used < length (slots x) → ⊥
   no_none x x' w o h = omega (arith, headless (vacant_places x) (o (places x []) w refl).0, w.laid.held.counted)
 
-  pub still_free : (x x' : CacheShard K V) → NoMoreUsed x x' → x.slab.used < length (slots x) → x'.slab.used < length (slots x')
+  pub still_free : (x x' : Layout K V) → NoMoreUsed x x' → x.slab.used < length (slots x) → x'.slab.used < length (slots x')
   still_free x x' u h = omega (arith, u.used, u.terms.size)
 
-  pub filled_entry : (at : ℕ) (c : Entry K V) (x x' : CacheShard K V) → Sound x [] → Occupies (Some at) x x' → items (slots x') ≡ set (items (slots x)) at (Some c) → entry_at x' at ≡ Some c
+  pub filled_entry : (at : ℕ) (c : Entry K V) (x x' : Layout K V) → Sound x [] → Occupies (Some at) x x' → items (slots x') ≡ set (items (slots x)) at (Some c) → entry_at x' at ≡ Some c
   filled_entry at c x x' w o is = entry_set x x' at (Some c) is (vacant_below w at (head_count (vacant_places x) at (o (places x []) w refl).0))
 
   -- an entry comes into it, under its hash
-  module _ {e : Keying K} {x x' : CacheShard K V} {p : Places} {t : model.Rings K V} {ps : List (model.Placeholder K)} (at : ℕ) (c : Entry K V) (hash : ℕ) (w : Shows e x p t ps)
+  module _ {e : Keying K} {x x' : Layout K V} {p : Places} {t : model.Rings K V} {ps : List (model.Placeholder K)} (at : ℕ) (c : Entry K V) (hash : ℕ) (w : Shows e x p t ps)
       (o : Occupies (Some at) x x') (is : items (slots x') ≡ set (items (slots x)) at (Some c)) (hs : hashes (slots x') ≡ set (hashes (slots x)) at hash) (key : Hashed e (Some c) hash) where
     head : Some at ≡ head_of p.vacant
     head = (o p w.stands w.settled).0
@@ -107,7 +97,7 @@ module _ {K V : Type 0} where
 
 module _ {S K V : Type 0} (weigh : K → V → ℕ) (l : Life S K V) where
   -- ---- a record whose key is not known
-  pub brings_in : (r : Resident K V) (k : K) (hash : ℕ) (v : V) (at : ℕ) (x x₁ x₂ x' : CacheShard K V) (q q' : S) →
+  pub brings_in : (r : Resident K V) (k : K) (hash : ℕ) (v : V) (at : ℕ) (x x₁ x₂ x' : Layout K V) (q q' : S) →
       E.Resident r ≡ E.Resident (record { key = k; weight = weigh k v; value = v; state = part (leb (x.tally.hot_weight + weigh k v) (limits x.settings).target); reads = 0 }) →
       SameTerms x x₁ → FollowsRings weigh l (λ u t. shrink u (weigh k v) t) x x₁ q q' →
       Occupies (Some at) x₁ x₂ → items (slots x₂) ≡ set (items (slots x₁)) at (Some (E.Resident r)) → hashes (slots x₂) ≡ set (hashes (slots x₁)) at hash →
@@ -120,12 +110,4 @@ module _ {S K V : Type 0} (weigh : K → V → ℕ) (l : Life S K V) where
       let w₁ = shrunk_from weigh l {x₀ = x} {x = x} {x' = x₁} (weigh k v) q q' (record { settings = refl; issued = refl; size = refl }) terms₁ follows e s₀ s w in
       let c₂ = brought at (plain m') hash w₁.shows o (its ∙ ap (λ c. set (items (slots x₁)) at (Some c)) eq) hs code in
       let z = en e _ (calls.shrunk (context_of weigh l e x s₀) (weigh k v) s).rings s.placeholders m' eq c₂ in
-      record {
-        places = z.0;
-        shows = z.1;
-        told = w₁.told;
-        limits = ap limits terms.settings ∙ w.limits;
-        next = ap suc terms.issued ∙ w.next;
-        size = terms.size ∙ w.size;
-        edit = w.edit;
-      }
+      stage_on w q' terms z.0 _ _ z.1 w₁.told

@@ -15,10 +15,12 @@ use Rattle.ring_slab.specs.declared.slots.Slot.{Slot}
 use Rattle.shard.specs.declared.ring.Ring.{Ring}
 use Rattle.shard.specs.declared.ring.RingName.TheVariants.{Hot, Cold, Ghosts}
 use Rattle.shard.specs.declared.tally.Tally.{Tally}
+use Rattle.shard.specs.declared.layout.Layout.{Layout}
 use Rattle.shard.specs.declared.cache_shard.CacheShard.{CacheShard}
 use Rattle.shard.specs.Tallies.{hot_share, cold_share}
 use Rattle.shard.specs.Layout.{Places, used, Begins, Kind, in_ring, off_rings, free, slots, entry_at, Laid, Ranked, Counted, Stands, places, Sound}
-use Rattle.shard.proofs.Standing.{kind_number}
+use Rattle.shard.proofs.Standing.{kind_number, size_bound}
+use Rattle.shard.proofs.Tallies.{Bounded, tally_bounded}
 
 -- ---- that an option is none
 collapsed : {A : Type 0} (o : Option A) → o ≡ None → o ≡ None
@@ -139,7 +141,7 @@ begins_prop : (r : Ring) (xs : List ℕ) → IsProp (Begins r xs)
 begins_prop r xs a b = λ t. record { head = ≡_prop coded_place _ _ a.head b.head t; len = ≡_prop coded_ℕ _ _ a.len b.len t }
 
 module _ {K V : Type 0} where
-  laid_prop : (x : CacheShard K V) (p : Places) → IsProp (Laid x p)
+  laid_prop : (x : Layout K V) (p : Places) → IsProp (Laid x p)
   laid_prop x p a b =
       λ t. record {
         held = holds_prop (slots x) x.slab.free x.slab.used (p.hot ∷ p.cold ∷ p.ghosts ∷ []) (p.hand ++ p.loose) p.vacant (used p) a.held b.held t;
@@ -148,7 +150,7 @@ module _ {K V : Type 0} where
         ghosts = begins_prop x.ghosts p.ghosts a.ghosts b.ghosts t;
       }
 
-  ranked_prop : (x : CacheShard K V) (p : Places) → IsProp (Ranked x p)
+  ranked_prop : (x : Layout K V) (p : Places) → IsProp (Ranked x p)
   ranked_prop x p a b =
       λ t. record {
         hot = λ k h. ≡_prop coded_kind _ _ (a.hot k h) (b.hot k h) t;
@@ -157,12 +159,12 @@ module _ {K V : Type 0} where
         loose = λ k h. ≡_prop coded_kind _ _ (a.loose k h) (b.loose k h) t;
       }
 
-  counted_prop : (x : CacheShard K V) → IsProp (Counted x)
+  counted_prop : (x : Layout K V) → IsProp (Counted x)
   counted_prop x a b =
       let small : IsProp ((k : ℕ) → (hot_share (entry_at x k) < 2 ^ 32) × (cold_share (entry_at x k) < 2 ^ 32)) = hlevel props in
       λ t. record { tally = ≡_prop coded_tally _ _ a.tally b.tally t; small = small a.small b.small t }
 
-  pub stands_prop : (x : CacheShard K V) (p : Places) → IsProp (Stands x p)
+  pub stands_prop : (x : Layout K V) (p : Places) → IsProp (Stands x p)
   stands_prop x p a b =
       λ t. record {
         laid = laid_prop x p a.laid b.laid t;
@@ -170,9 +172,17 @@ module _ {K V : Type 0} where
         counted = counted_prop x a.counted b.counted t;
       }
 
-  pub sound_prop : (x : CacheShard K V) (h : List ℕ) → IsProp (Sound x h)
+  pub sound_prop : (x : Layout K V) (h : List ℕ) → IsProp (Sound x h)
   sound_prop x h = stands_prop x (places x h)
 
   -- what a ghost field keeps, taken out again
-  pub opened : (x : CacheShard K V) (h : List ℕ) → ∥ Sound x h ∥₁ → Sound x h
+  pub opened : (x : Layout K V) (h : List ℕ) → ∥ Sound x h ∥₁ → Sound x h
   opened x h w = ∥∥₁_elim w (sound_prop x h) (λ s. s)
+
+  -- every shard is sound
+  pub sound_of : (x : CacheShard K V) → Sound x.layout []
+  sound_of x = opened x.layout [] x.sound
+
+  -- and its counts and weights are small
+  pub bounded_of : (x : CacheShard K V) → Bounded x.layout.tally
+  bounded_of x = tally_bounded (sound_of x).counted (size_bound (sound_of x))

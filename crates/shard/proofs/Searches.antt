@@ -14,36 +14,34 @@ use Rattle.ring_slab.proofs.Counts.{one_at, one_off, count_append, split_at}
 use Rattle.ring_slab.proofs.Holding.{entered_is}
 use Rattle.shard.specs.declared.entry.Entry.{Entry}
 use Rattle.shard.specs.declared.entry.Entry.TheVariants as E
-use Rattle.shard.specs.declared.entry.ResidentState.{ResidentState}
-use Rattle.shard.specs.declared.entry.ResidentState.TheVariants as R
-use Rattle.shard.specs.declared.found.Found.TheVariants as F
+use Rattle.shard.specs.declared.found.Sighting.{Sighting}
 use Rattle.shard.specs.declared.found.Sighting.TheVariants as S
-use Rattle.shard.specs.declared.ring.RingName.TheVariants.{Hot, Cold, Ghosts}
-use Rattle.shard.specs.declared.cache_shard.CacheShard.{CacheShard}
-use Rattle.shard.specs.Tallies.{by_state}
-use Rattle.shard.specs.Layout.{Places, in_ring, off_rings, kind_of, slots, entry_at, hash_at, ring_places, places, Sound}
+use Rattle.shard.specs.declared.ring.RingName.TheVariants.{Ghosts}
+use Rattle.shard.specs.declared.layout.Layout.{Layout}
+use Rattle.shard.specs.Layout.{Places, kind_of, slots, entry_at, hash_at, ring_places, places, Sound}
 use Rattle.shard.specs.Shows.{plain, waiting, Hashed, Shows}
 use Rattle.shard.specs.Finds.{places_of, Agrees, Finds}
 use Rattle.shard.specs.Search.{Nowhere, NoneOf, keyed_by, ghostly, first_with, GhostAt, KeyedAt, Sights, LeadsTo}
-use Rattle.shard.proofs.Standing.{kind_number, count_used, places_once, entry_used, ring_by_kind, ring_is}
+use Rattle.shard.proofs.Standing.{kind_ghost, count_used, places_once, entry_used, ring_by_kind, ring_is}
 use Rattle.shard.proofs.Views.{between}
+use Rattle.shard.proofs.Finding.{found_at}
 
 -- ---- picking from a list
 module _ {X : Type 0} (test : X → Bool) where
   pick_first : (x : X) (xs : List X) → test x ≡ true → pick test (x ∷ xs) ≡ here [] x xs
   unfolding when
-  pick_first x xs t = ap (λ b. when b (λ _. here [] x xs) (λ _. onward x (pick test xs))) t
+  pick_first x xs t = rw t
 
   pick_later : (x : X) (xs : List X) → test x ≡ false → pick test (x ∷ xs) ≡ onward x (pick test xs)
   unfolding when
-  pick_later x xs f = ap (λ b. when b (λ _. here [] x xs) (λ _. onward x (pick test xs))) f
+  pick_later x xs f = rw f
 
   -- 1 for one that passes
   abbrev passes : X → ℕ
   passes x = cond (test x) 1 0
 
   fails : (x : X) → passes x ≡ 0 → test x ≡ false
-  fails x z = ⊎_elim (λ t. absurd (omega (arith, cond-true {A = ℕ} (test x) 1 0 t))) (λ f. f) (cases_Bool (test x))
+  fails x z = grind arith
 
   pick_none : (xs : List X) → sum_of passes xs ≡ 0 → pick test xs ≡ nothing
   pick_none [] z = refl
@@ -96,37 +94,21 @@ module _ {X Y : Type 0} (f : ℕ → X) (g : Y → X) (test : Y → Bool) where
   -- none is picked where none passes
   none_pass : (ks : List ℕ) (rs : List Y) → mapped f ks ≡ mapped g rs → ((j : ℕ) (r : Y) → f j ≡ g r → test r ≡ true → ⊥) → sum_of (passes test) rs ≡ 0
   none_pass ks [] agree none = refl
-  none_pass [] (r ∷ rs) agree none = let z : ◌≡◌ {A = ℕ} 0 1 = cc in absurd (omega arith)
+  none_pass [] (r ∷ rs) agree none = cc
   none_pass (k ∷ ks) (r ∷ rs) agree none =
       let e : f k ≡ g r = cc in
       let es : mapped f ks ≡ mapped g rs = cc in
       ⊎_elim (λ t. absurd (none k r e t)) (λ n. omega (arith, cond-false {A = ℕ} (test r) 1 0 n, none_pass ks rs es none)) (cases_Bool (test r))
 
 -- ---- entries
--- a resident's kind is not a ghost's
-no_ghost : (b : Bool) (s : ResidentState) → kind_number (cond b off_rings (by_state s (in_ring Hot) (in_ring Cold))) ≡ 2 → ⊥
-no_ghost true s h = omega arith
-no_ghost false R.Hot h = omega arith
-no_ghost false R.Cold h = omega arith
-
 module _ {K V : Type 0} where
   -- what has a key is there
   pub keyed_some : (e : Keying K) (key : K) (o : Option (Entry K V)) → keyed_by e key o ≡ true → (v : Entry K V) × (o ≡ Some v)
-  keyed_some e key None h = absurd (both_ways false refl h)
+  keyed_some e key None h = cc
   keyed_some e key (Some v) h = (v, refl)
 
   pub ghost_is : (o : Option (Entry K V)) → ghostly o ≡ true → o ≡ Some E.Ghost
-  ghost_is None h = absurd (both_ways false refl h)
-  ghost_is (Some (E.Resident r)) h = absurd (both_ways false refl h)
-  ghost_is (Some (E.Placeholder p)) h = absurd (both_ways false refl h)
-  ghost_is (Some E.Ghost) h = refl
-
-  -- what belongs in the ghosts' ring is a ghost
-  pub kind_ghost : (o : Option (Entry K V)) → kind_of o ≡ in_ring Ghosts → o ≡ Some E.Ghost
-  kind_ghost None h = let z = ap kind_number h in absurd (omega arith)
-  kind_ghost (Some (E.Resident r)) h = absurd (no_ghost (eqb r.weight 0) r.state (ap kind_number h))
-  kind_ghost (Some (E.Placeholder p)) h = let z = ap kind_number h in absurd (omega arith)
-  kind_ghost (Some E.Ghost) h = refl
+  ghost_is o h = grind arith
 
 -- ---- the first place of a hash
 module _ {K V : Type 0} (s : List (Slot (Entry K V))) (hash : ℕ) where
@@ -153,7 +135,7 @@ module _ {K V : Type 0} (s : List (Slot (Entry K V))) (hash : ℕ) where
     pub picked : pick (eqb hash) (mapped (look (hashes s)) ks) ≡ here (mapped (look (hashes s)) left) (look (hashes s) at) (mapped (look (hashes s)) right)
 
   pub ghost_picked : (ks : List ℕ) (at : ℕ) → first_with s hash ks ≡ Some at → GhostPicked ks at
-  ghost_picked [] at h = let z : ◌≡◌ {A = ℕ} 0 1 = cc in absurd (omega arith)
+  ghost_picked [] at h = cc
   ghost_picked (k ∷ ks) at h =
       ⊎_elim
       (λ t. let e : Some k ≡ Some at = sym (cond-true _ (Some k) (first_with s hash ks) t) ∙ h in
@@ -177,13 +159,13 @@ module _ {K V : Type 0} (s : List (Slot (Entry K V))) (hash : ℕ) where
   ghost_missed [] h = refl
   ghost_missed (k ∷ ks) h =
       ⊎_elim
-      (λ t. let e : Some k ≡ None = sym (cond-true _ (Some k) (first_with s hash ks) t) ∙ h in let z : ◌≡◌ {A = ℕ} 0 1 = cc in absurd (omega arith))
+      (λ t. let e : Some k ≡ None = sym (cond-true _ (Some k) (first_with s hash ks) t) ∙ h in cc)
       (λ f. pick_later (eqb hash) (look (hashes s) k) (mapped (look (hashes s)) ks) f
       ∙ ap (onward (look (hashes s) k)) (ghost_missed ks (sym (cond-false _ (Some k) (first_with s hash ks) f) ∙ h)))
       (cases_Bool (eqb hash (look (hashes s) k)))
 
 -- ---- the place that a key leads to
-module _ {K V : Type 0} (e : Keying K) (key : K) (hash : ℕ) (x : CacheShard K V) (w : Sound x []) where
+module _ {K V : Type 0} (e : Keying K) (key : K) (hash : ℕ) (x : Layout K V) (w : Sound x []) where
   -- an entry under the hash stands in the chain of the hash
   in_chain : (j : ℕ) (v : Entry K V) → entry_at x j ≡ Some v → hash_at x j ≡ hash → 1 ≤ count j (chain_in (slots x) (bucket_of hash (length (slots x))))
   in_chain j v is h =
@@ -202,22 +184,25 @@ module _ {K V : Type 0} (e : Keying K) (key : K) (hash : ℕ) (x : CacheShard K 
   in_ghosts : (j : ℕ) → GhostAt (slots x) hash j → 1 ≤ count j (ring_places Ghosts x)
   in_ghosts j g = ring_by_kind w Ghosts j (ap kind_of (ghost_is (entry_at x j) g.ghost)) refl
 
-  pub leads_ghost : (at : ℕ) → Sights (slots x) hash e key (chain_in (slots x) (bucket_of hash (length (slots x)))) (S.Ghost at) → LeadsTo e key hash x (Some at)
-  leads_ghost at q =
+  one_ghost : (at : ℕ) → Sights (slots x) hash e key (chain_in (slots x) (bucket_of hash (length (slots x)))) (Some (S.Ghost at)) → LeadsTo e key hash x (Some at)
+  one_ghost at q =
       inr (
         nowhere q.0,
         first_only (slots x) hash (ring_places Ghosts x) at (in_ghosts at q.1.ghost) q.1.ghost.hashed
             (λ j there h. let r = ring_ghost j there h in q.1.only j r.0 r.1),
       )
 
+  pub leads_ghost : (at : ℕ) (seen : Sighting) → seen ≡ S.Ghost at → Sights (slots x) hash e key (chain_in (slots x) (bucket_of hash (length (slots x)))) (Some seen) → LeadsTo e key hash x (Some at)
+  leads_ghost at seen is q = one_ghost at (subst (λ z. Sights (slots x) hash e key (chain_in (slots x) (bucket_of hash (length (slots x)))) (Some z)) is q)
+
   leads : (r : Option ℕ) → Nowhere (KeyedAt (slots x) hash e key) → r ≡ first_with (slots x) hash (ring_places Ghosts x) → LeadsTo e key hash x r
   leads None none is = (none, sym is)
   leads (Some at) none is = inr (none, sym is)
 
-  pub leads_ghosts : (r : Option ℕ) → Sights (slots x) hash e key (chain_in (slots x) (bucket_of hash (length (slots x)))) S.Ghosts → r ≡ first_with (slots x) hash (ring_places Ghosts x) → LeadsTo e key hash x r
-  leads_ghosts r q is = leads r (nowhere q.0) is
+  pub leads_ghosts : (r : Option ℕ) (seen : Sighting) → seen ≡ S.Ghosts → Sights (slots x) hash e key (chain_in (slots x) (bucket_of hash (length (slots x)))) (Some seen) → r ≡ first_with (slots x) hash (ring_places Ghosts x) → LeadsTo e key hash x r
+  leads_ghosts r seen is q first = leads r (nowhere (subst (λ z. Sights (slots x) hash e key (chain_in (slots x) (bucket_of hash (length (slots x)))) (Some z)) is q).0) first
 
-  pub leads_nowhere : Sights (slots x) hash e key (chain_in (slots x) (bucket_of hash (length (slots x)))) S.Nothing → LeadsTo e key hash x None
+  pub leads_nowhere : Sights (slots x) hash e key (chain_in (slots x) (bucket_of hash (length (slots x)))) None → LeadsTo e key hash x None
   leads_nowhere q = (nowhere q.0, first_none (slots x) hash (ring_places Ghosts x) (λ j there h. let r = ring_ghost j there h in q.1 j r.0 r.1))
 
   -- there is an entry at that place
@@ -228,7 +213,7 @@ module _ {K V : Type 0} (e : Keying K) (key : K) (hash : ℕ) (x : CacheShard K 
       (E.Ghost, kind_ghost (entry_at x at) (w.ranked.ghosts at (omega (arith, ap (count at) p.split, count_append at p.left (at ∷ p.right), one_at at at refl))))
 
   pub leads_not_none : (at : ℕ) → LeadsTo e key hash x (Some at) → entry_at x at ≡ None → ⊥
-  leads_not_none at l n = let is = (leads_some at l).1 in let z : ◌≡◌ {A = ℕ} 0 1 = cc in omega arith
+  leads_not_none at l n = let is = (leads_some at l).1 in cc
 
   pub leads_place : (at : ℕ) → LeadsTo e key hash x (Some at) → at < length (slots x)
   leads_place at l = let v = leads_some at l in (entry_used w at v.0 v.1).0
@@ -239,7 +224,7 @@ abbrev searched : {K V : Type 0} → (h c o : Pick (model.Resident K V)) → Pic
 searched h c o q g =
     calls.found_resident (model.spot_or model.hot_ring h (model.spot_or model.cold_ring c (model.spot_or model.off_rings o model.nowhere))) (calls.found_placeholder q (calls.found_ghost g))
 
-module _ {K V : Type 0} (e : Keying K) (hashes_agree : (a b : K) → e.same a b ≡ true → e.code a ≡ e.code b) (key : K) (hash : ℕ) (is_code : hash ≡ e.code key) (x : CacheShard K V) (p : Places) (s : calls.State K V) (shows : Shows e x p s.rings s.placeholders) where
+module _ {K V : Type 0} (e : Keying K) (hashes_agree : (a b : K) → e.same a b ≡ true → e.code a ≡ e.code b) (key : K) (hash : ℕ) (is_code : hash ≡ e.code key) (x : Layout K V) (p : Places) (s : calls.State K V) (shows : Shows e x p s.rings s.placeholders) where
   -- the keys' tests
   abbrev of_resident : model.Resident K V → Bool
   of_resident r = e.same r.key key
@@ -259,7 +244,7 @@ module _ {K V : Type 0} (e : Keying K) (hashes_agree : (a b : K) → e.same a b 
       under : (v : Entry K V) → keyed_by e key (Some v) ≡ true → Hashed e (Some v) (hash_at x j) → hash_at x j ≡ hash
       under (E.Resident r) t h = h ∙ hashes_agree r.key key t ∙ sym is_code
       under (E.Placeholder q) t h = h ∙ hashes_agree q.key key t ∙ sym is_code
-      under E.Ghost t h = absurd (both_ways false refl t)
+      under E.Ghost t h = cc
 
   -- ---- no entry has the key
   module _ (none : Nowhere (KeyedAt (slots x) hash e key)) where
@@ -275,19 +260,19 @@ module _ {K V : Type 0} (e : Keying K) (hashes_agree : (a b : K) → e.same a b 
         ∙ ap (λ n. calls.found_ghost (pick (eqb n) s.rings.ghosts)) (sym is_code)
         ∙ ap (λ l. calls.found_ghost (pick (eqb hash) l)) (sym shows.ghosts)
 
-    agrees_nothing : first_with (slots x) hash (ring_places Ghosts x) ≡ None → Agrees x p shows.offs shows.waits (calls.search_for e key s) F.Nothing
+    agrees_nothing : first_with (slots x) hash (ring_places Ghosts x) ≡ None → Agrees x p shows.offs shows.waits (calls.search_for e key s) None
     agrees_nothing missed =
         let i = ap (first_with (slots x) hash) (sym (ring_is shows.stands Ghosts)) ∙ missed in
-        subst (λ f. Agrees x p shows.offs shows.waits f F.Nothing) (sym (ghosts_alone ∙ ap calls.found_ghost (ghost_missed (slots x) hash p.ghosts i))) tt
+        subst (λ f. Agrees x p shows.offs shows.waits f None) (sym (ghosts_alone ∙ ap calls.found_ghost (ghost_missed (slots x) hash p.ghosts i))) tt
 
-    agrees_ghost : (at : ℕ) (entry : Entry K V) → first_with (slots x) hash (ring_places Ghosts x) ≡ Some at → entry_at x at ≡ Some entry → Agrees x p shows.offs shows.waits (calls.search_for e key s) (F.At at entry)
+    agrees_ghost : (at : ℕ) (entry : Entry K V) → first_with (slots x) hash (ring_places Ghosts x) ≡ Some at → entry_at x at ≡ Some entry → Agrees x p shows.offs shows.waits (calls.search_for e key s) (found_at at entry)
     agrees_ghost at entry first is =
         let i = ap (first_with (slots x) hash) (sym (ring_is shows.stands Ghosts)) ∙ first in
         let q = ghost_picked (slots x) hash p.ghosts at i in
         let there : 1 ≤ count at p.ghosts = omega (arith, ap (count at) q.split, count_append at q.left (at ∷ q.right), one_at at at refl) in
         let ghost = kind_ghost (entry_at x at) (shows.stands.ranked.ghosts at there) in
         let same : entry ≡ E.Ghost = cc in
-        subst (λ f. Agrees x p shows.offs shows.waits f (F.At at entry)) (sym (ghosts_alone ∙ ap calls.found_ghost q.picked)) (same, (q.left, q.right, q.split, refl, refl))
+        subst (λ f. Agrees x p shows.offs shows.waits f (found_at at entry)) (sym (ghosts_alone ∙ ap calls.found_ghost q.picked)) (same, (q.left, q.right, q.split, refl, refl))
 
   -- ---- the entry at `at` has the key, and no other has
   module _ (most : matches e key s ≤ 1) (at : ℕ) (entry : Entry K V) (is : entry_at x at ≡ Some entry) (keyed : keyed_by e key (entry_at x at) ≡ true) where
@@ -308,19 +293,19 @@ module _ {K V : Type 0} (e : Keying K) (hashes_agree : (a b : K) → e.same a b 
         let u = entry_used shows.stands at entry is in
         omega (arith, places_once shows.stands at u.0, u.1, no_ghost_here, ap (count at) shows.settled, shows.loose at)
 
-    agrees_resident : (l : model.Where) (rs : List (model.Resident K V)) (q : Spotted (entry_at x) (λ r. Some (plain r)) of_resident (places_of l p.hot p.cold shows.offs) at rs) → calls.search_for e key s ≡ calls.resident_at l q.before q.middle q.after → Agrees x p shows.offs shows.waits (calls.search_for e key s) (F.At at entry)
+    agrees_resident : (l : model.Where) (rs : List (model.Resident K V)) (q : Spotted (entry_at x) (λ r. Some (plain r)) of_resident (places_of l p.hot p.cold shows.offs) at rs) → calls.search_for e key s ≡ calls.resident_at l q.before q.middle q.after → Agrees x p shows.offs shows.waits (calls.search_for e key s) (found_at at entry)
     agrees_resident l rs q found =
         let m = q.agree_middle in
         let same : entry ≡ plain q.middle = cc in
-        subst (λ f. Agrees x p shows.offs shows.waits f (F.At at entry)) (sym found) (same, (q.left, q.right, q.split, q.agree_left, q.agree_right))
+        subst (λ f. Agrees x p shows.offs shows.waits f (found_at at entry)) (sym found) (same, (q.left, q.right, q.split, q.agree_left, q.agree_right))
 
-    agrees_hot : 1 ≤ count at p.hot → Agrees x p shows.offs shows.waits (calls.search_for e key s) (F.At at entry)
+    agrees_hot : 1 ≤ count at p.hot → Agrees x p shows.offs shows.waits (calls.search_for e key s) (found_at at entry)
     agrees_hot there =
         let q = spotted (entry_at x) (λ r. Some (plain r)) of_resident p.hot at s.rings.hot shows.hot there of_it (omega arith) in
         agrees_resident model.hot_ring s.rings.hot q
         (search_is q.picked refl refl refl)
 
-    agrees_cold : 1 ≤ count at p.cold → Agrees x p shows.offs shows.waits (calls.search_for e key s) (F.At at entry)
+    agrees_cold : 1 ≤ count at p.cold → Agrees x p shows.offs shows.waits (calls.search_for e key s) (found_at at entry)
     agrees_cold there =
         let q = spotted (entry_at x) (λ r. Some (plain r)) of_resident p.cold at s.rings.cold shows.cold there of_it (omega arith) in
         let some = q.some in
@@ -328,7 +313,7 @@ module _ {K V : Type 0} (e : Keying K) (hashes_agree : (a b : K) → e.same a b 
         agrees_resident model.cold_ring s.rings.cold q
         (search_is hot q.picked refl refl)
 
-    agrees_off : 1 ≤ count at shows.offs → Agrees x p shows.offs shows.waits (calls.search_for e key s) (F.At at entry)
+    agrees_off : 1 ≤ count at shows.offs → Agrees x p shows.offs shows.waits (calls.search_for e key s) (found_at at entry)
     agrees_off there =
         let q = spotted (entry_at x) (λ r. Some (plain r)) of_resident shows.offs at s.rings.off shows.off there of_it (omega arith) in
         let some = q.some in
@@ -337,7 +322,7 @@ module _ {K V : Type 0} (e : Keying K) (hashes_agree : (a b : K) → e.same a b 
         agrees_resident model.off_rings s.rings.off q
         (search_is hot cold q.picked refl)
 
-    agrees_waiting : 1 ≤ count at shows.waits → Agrees x p shows.offs shows.waits (calls.search_for e key s) (F.At at entry)
+    agrees_waiting : 1 ≤ count at shows.waits → Agrees x p shows.offs shows.waits (calls.search_for e key s) (found_at at entry)
     agrees_waiting there =
         let q = spotted (entry_at x) (λ q. Some (waiting q)) of_placeholder shows.waits at s.placeholders shows.placeholders there of_it_waiting (omega arith) in
         let some = q.some in
@@ -346,9 +331,9 @@ module _ {K V : Type 0} (e : Keying K) (hashes_agree : (a b : K) → e.same a b 
         let off = pick_none of_resident s.rings.off (omega arith) in
         let m = q.agree_middle in
         let same : entry ≡ waiting q.middle = cc in
-        subst (λ f. Agrees x p shows.offs shows.waits f (F.At at entry)) (sym (search_is hot cold off q.picked)) (same, (q.left, q.right, q.split, q.agree_left, q.agree_right))
+        subst (λ f. Agrees x p shows.offs shows.waits f (found_at at entry)) (sym (search_is hot cold off q.picked)) (same, (q.left, q.right, q.split, q.agree_left, q.agree_right))
 
-    agrees_keyed : Agrees x p shows.offs shows.waits (calls.search_for e key s) (F.At at entry)
+    agrees_keyed : Agrees x p shows.offs shows.waits (calls.search_for e key s) (found_at at entry)
     agrees_keyed =
         ⊎_elim
         (λ h. ⊎_elim
@@ -357,10 +342,10 @@ module _ {K V : Type 0} (e : Keying K) (hashes_agree : (a b : K) → e.same a b 
         agrees_hot (cases_lt (count at p.hot) 1)
 
 -- ---- what `find` answers
-module _ {K V : Type 0} (e : Keying K) (hashes_agree : (a b : K) → e.same a b ≡ true → e.code a ≡ e.code b) (key : K) (hash : ℕ) (is_code : hash ≡ e.code key) (x : CacheShard K V) where
-  pub finds_nothing : LeadsTo e key hash x None → Finds e key x F.Nothing
+module _ {K V : Type 0} (e : Keying K) (hashes_agree : (a b : K) → e.same a b ≡ true → e.code a ≡ e.code b) (key : K) (hash : ℕ) (is_code : hash ≡ e.code key) (x : Layout K V) where
+  pub finds_nothing : LeadsTo e key hash x None → Finds e key x None
   finds_nothing l p s shows unique = agrees_nothing e hashes_agree key hash is_code x p s shows l.0 l.1
 
-  pub finds_at : (at : ℕ) (entry : Entry K V) → LeadsTo e key hash x (Some at) → entry_at x at ≡ Some entry → Finds e key x (F.At at entry)
+  pub finds_at : (at : ℕ) (entry : Entry K V) → LeadsTo e key hash x (Some at) → entry_at x at ≡ Some entry → Finds e key x (found_at at entry)
   finds_at at entry (inl k) is p s shows unique = agrees_keyed e hashes_agree key hash is_code x p s shows (unique key) at entry is k.same
   finds_at at entry (inr q) is p s shows unique = agrees_ghost e hashes_agree key hash is_code x p s shows q.0 at entry q.1 is

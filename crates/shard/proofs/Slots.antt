@@ -1,29 +1,24 @@
 -- How many slots are used: one for each entry of the model.
-use Rattle.std.proofs.Common.{◌≡◌, ℕ, ◌+◌, ◌<◌, ◌≤◌, List, [], ◌∷◌, ◌++◌, length, Some, sym, refl, ap, ◌∙◌, ⊎_elim, arith}
+use Rattle.std.proofs.Common.{◌≡◌, ℕ, ◌+◌, ◌<◌, ◌≤◌, List, ◌++◌, length, Some, sym, refl, ap, ◌∙◌, ⊎_elim, arith}
 use Rattle.std.proofs.lemmas.List.{length-append}
 use Rattle.std.proofs.lemmas.Bool.{cases_lt}
 use Rattle.interface.specs.Meaning.{Keying}
-use Rattle.model.specs.Lists.{sum_of}
 use Rattle.model.specs.Entries as model
 use Rattle.ring_slab.specs.Places.{count, upto}
 use Rattle.ring_slab.proofs.Counts.{count_append}
 use Rattle.ring_slab.proofs.Chains.{count_upto, length_upto}
-use Rattle.shard.specs.declared.cache_shard.CacheShard.{CacheShard}
+use Rattle.shard.specs.declared.layout.Layout.{Layout}
 use Rattle.shard.specs.Layout.{Places, slots, entry_at, hash_at}
 use Rattle.shard.specs.Shows.{plain, waiting, Shows}
-use Rattle.shard.proofs.Standing.{places_once, places_past}
+use Rattle.shard.proofs.Standing.{places_once, places_past, places_below}
 use Rattle.shard.proofs.Views.{as_long, length_mapped}
-use Rattle.shard.proofs.Sums.{sum_counts}
-
-ones : (xs : List ℕ) → sum_of (λ _. 1) xs ≡ length xs
-ones [] = refl
-ones (x ∷ xs) = omega (arith, ones xs)
+use Rattle.shard.proofs.Sums.{sum_counts, sum_ones}
 
 -- lists in which each number stands as often are of one length
 pub same_length : (xs ys : List ℕ) (m : ℕ) → ((k : ℕ) → count k xs ≡ count k ys) → ((k : ℕ) → 1 ≤ count k xs → k < m) → length xs ≡ length ys
-same_length xs ys m h b = sym (ones xs) ∙ sum_counts (λ _. 1) xs ys m h b ∙ ones ys
+same_length xs ys m h b = sym (sum_ones (λ _. 1) xs (λ _ _. refl)) ∙ sum_counts (λ _. 1) xs ys m h b ∙ sum_ones (λ _. 1) ys (λ _ _. refl)
 
-module _ {K V : Type 0} {e : Keying K} {x : CacheShard K V} {p : Places} {t : model.Rings K V} {ps : List (model.Placeholder K)} (w : Shows e x p t ps) where
+module _ {K V : Type 0} {e : Keying K} {x : Layout K V} {p : Places} {t : model.Rings K V} {ps : List (model.Placeholder K)} (w : Shows e x p t ps) where
   abbrev all_places : List ℕ
   all_places = p.hot ++ (p.cold ++ (p.ghosts ++ (p.loose ++ p.vacant)))
 
@@ -42,7 +37,7 @@ module _ {K V : Type 0} {e : Keying K} {x : CacheShard K V} {p : Places} {t : mo
       (cases_lt k (length (slots x)))
 
   below_all : (k : ℕ) → 1 ≤ count k all_places → k < length (slots x)
-  below_all k h = ⊎_elim (λ i. i) (λ i. absurd (omega (arith, h, count_all k, no_hand k, places_past w.stands k i))) (cases_lt k (length (slots x)))
+  below_all k h = places_below w.stands k (omega (arith, h, count_all k))
 
   pub used_is : x.slab.used ≡ length t.hot + (length t.cold + (length t.off + (length ps + length t.ghosts)))
   used_is =

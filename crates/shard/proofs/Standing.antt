@@ -1,5 +1,5 @@
 -- What follows of where the entries of a shard lie.
-use Rattle.std.proofs.Common.{◌≡◌, ℕ, ◌+◌, ◌^◌, ◌<◌, ◌≤◌, true, List, [], ◌∷◌, ◌++◌, length, get_or, is_some, Some, None, sym, refl, ap, ◌∙◌, subst, ⊎_elim, arith}
+use Rattle.std.proofs.Common.{◌≡◌, ℕ, ◌+◌, ◌^◌, ◌<◌, ◌≤◌, true, List, [], ◌∷◌, ◌++◌, length, get_or, is_some, Some, None, Option, sym, refl, ap, ◌∙◌, subst, ⊎_elim, arith}
 use Rattle.std.proofs.lemmas.List.{length-map, get_or_past}
 use Rattle.std.proofs.lemmas.Bool.{cases_lt, cases_eq, both_ways}
 use Rattle.ring_slab.specs.Places.{one, count, head_of, upto}
@@ -13,12 +13,13 @@ use Rattle.ring_slab.proofs.Chains.{count_upto}
 use Rattle.ring_slab.proofs.Holding as holding
 use Rattle.ring_slab.proofs.Changes.{same_links}
 use Rattle.shard.specs.declared.entry.Entry.{Entry}
+use Rattle.shard.specs.declared.entry.Entry.TheVariants as E
 use Rattle.shard.specs.declared.ring.Ring.{Ring}
 use Rattle.shard.specs.declared.ring.RingName.{RingName}
 use Rattle.shard.specs.declared.ring.RingName.TheVariants.{Hot, Cold, Ghosts}
-use Rattle.shard.specs.declared.cache_shard.CacheShard.{CacheShard}
+use Rattle.shard.specs.declared.layout.Layout.{Layout}
 use Rattle.shard.specs.Tallies.{recounted, hot_share, cold_share}
-use Rattle.shard.specs.Layout.{Places, ring_at, loosed, used, Begins, Kind, in_ring, off_rings, free, kind_of, slots, entry_at, hash_at, ring, Ranked, Counted, Stands, ring_places, vacant_places, elsewhere, places, Sound, SameEntries}
+use Rattle.shard.specs.Layout.{Places, ring_at, loosed, used, Begins, Kind, in_ring, off_rings, free, kind_of, slots, entry_at, ring, Ranked, Counted, Stands, ring_places, vacant_places, elsewhere, places, Sound, SameEntries}
 use Rattle.shard.proofs.Counts.{count_none_of, head_counts, head_none}
 use Rattle.shard.proofs.Tallies.{Alike, recounted_same}
 
@@ -37,6 +38,10 @@ kind_number (in_ring Cold) = 1
 kind_number (in_ring Ghosts) = 2
 kind_number off_rings = 3
 kind_number free = 4
+
+-- what belongs in the ghosts' ring is a ghost
+pub kind_ghost : {K V : Type 0} (o : Option (Entry K V)) → kind_of o ≡ in_ring Ghosts → o ≡ Some E.Ghost
+kind_ghost o h = grind arith
 
 module _ {T : Type 0} where
   -- the loose and the entered places are known by how often each stands among them
@@ -60,7 +65,7 @@ module _ {T : Type 0} where
   walked {s} r xs b c = ap (λ h. ring_from s h r.len) b.head ∙ ap (λ n. ring_from s (head_of xs) n) b.len ∙ holding.ring_is xs c
 
 module _ {K V : Type 0} where
-  module _ {x : CacheShard K V} {p : Places} (w : Stands x p) where
+  module _ {x : Layout K V} {p : Places} (w : Stands x p) where
     -- ---- each place in one list
     pub places_once : (k : ℕ) → k < length (slots x) → everywhere k p ≡ 1
     places_once k h = omega (arith, w.laid.held.place k h, count_append k p.hand p.loose)
@@ -164,25 +169,11 @@ module _ {K V : Type 0} where
     kind_in_ring Cold k h = w.ranked.cold k h
     kind_in_ring Ghosts k h = w.ranked.ghosts k h
 
-    pub ring_below : (n : RingName) (k : ℕ) → 1 ≤ count k (ring_at n p) → k < length (slots x)
-    ring_below Hot k h = places_below k (omega arith)
-    ring_below Cold k h = places_below k (omega arith)
-    ring_below Ghosts k h = places_below k (omega arith)
-
-    pub loose_below : (k : ℕ) → 1 ≤ count k p.loose → k < length (slots x)
-    loose_below k h = places_below k (omega arith)
-
     pub hand_below : (k : ℕ) → 1 ≤ count k p.hand → k < length (slots x)
     hand_below k h = places_below k (omega arith)
 
     pub vacant_below : (k : ℕ) → 1 ≤ count k p.vacant → k < length (slots x)
     vacant_below k h = places_below k (omega arith)
-
-    -- what is in a ring is nowhere else
-    pub ring_only : (n : RingName) (k : ℕ) → 1 ≤ count k (ring_at n p) → (count k p.hand ≡ 0) × (count k p.loose ≡ 0) × (count k p.vacant ≡ 0)
-    ring_only Hot k h = let m = places_most k in (omega arith, omega arith, omega arith)
-    ring_only Cold k h = let m = places_most k in (omega arith, omega arith, omega arith)
-    ring_only Ghosts k h = let m = places_most k in (omega arith, omega arith, omega arith)
 
     -- ---- the loose places and what is in hand, in another order or shared out otherwise
     pub regrouped : (l h : List ℕ) → ((k : ℕ) → count k h + count k l ≡ count k p.hand + count k p.loose) → ((k : ℕ) → 1 ≤ count k l → kind_of (entry_at x k) ≡ off_rings) → Stands x (loosed l h p)
@@ -257,12 +248,9 @@ module _ {K V : Type 0} where
     sound_with h e = subst (Sound x) e stands_sound
 
   -- ---- the entries are as they were
-  module _ {x x' : CacheShard K V} (e : SameEntries x x') where
+  module _ {x x' : Layout K V} (e : SameEntries x x') where
     pub entry_same : (k : ℕ) → entry_at x' k ≡ entry_at x k
     entry_same k = ap (λ l. get_or l k None) e.items
-
-    pub hash_same : (k : ℕ) → hash_at x' k ≡ hash_at x k
-    hash_same k = ap (λ l. get_or l k 0) e.hashes
 
     pub still_counted : Counted x → Counted x'
     still_counted w =
@@ -282,7 +270,7 @@ module _ {K V : Type 0} where
 
   -- ---- entries change in place, and count for the same
   -- what a change of entries in place leaves
-  pub record SameFrame (x x' : CacheShard K V) : Type 0 where
+  pub record SameFrame (x x' : Layout K V) : Type 0 where
     pub links : SameLinks (slots x) (slots x')
     pub free : x'.slab.free ≡ x.slab.free
     pub used : x'.slab.used ≡ x.slab.used
@@ -291,7 +279,7 @@ module _ {K V : Type 0} where
     pub ghosts : x'.ghosts ≡ x.ghosts
     pub tally : x'.tally ≡ x.tally
 
-  module _ {x x' : CacheShard K V} {p : Places} (f : SameFrame x x') (same : (k : ℕ) → Alike (entry_at x k) (entry_at x' k)) where
+  module _ {x x' : Layout K V} {p : Places} (f : SameFrame x x') (same : (k : ℕ) → Alike (entry_at x k) (entry_at x' k)) where
     pub touched : Stands x p → Stands x' p
     touched w =
         let rank : (k : ℕ) (n : Kind) → kind_of (entry_at x k) ≡ n → kind_of (entry_at x' k) ≡ n = λ k n h. (same k).kind ∙ h in

@@ -1,7 +1,7 @@
 -- The counts and weights of a shard, as sums over its places and over the model's lists.
-use Rattle.std.proofs.Common.{◌≡◌, ℕ, zero, suc, ◌+◌, ◌*◌, ◌<◌, ◌≤◌, Bool, true, false, cond, eqb, List, [], ◌∷◌, ◌++◌, length, get_or, Some, None, Option, sym, refl, ap, ◌∙◌, subst, ⊎_elim, add-mul, one-mul, zero-mul, arith}
+use Rattle.std.proofs.Common.{◌≡◌, ℕ, zero, suc, ◌+◌, ◌*◌, ◌<◌, ◌≤◌, Bool, cond, List, [], ◌∷◌, ◌++◌, length, get_or, Some, None, Option, sym, refl, ap, ◌∙◌, subst, ⊎_elim, add-mul, one-mul, zero-mul, arith}
 use Rattle.std.proofs.lemmas.List.{length-map}
-use Rattle.std.proofs.lemmas.Bool.{cases_eq, cases_lt as cases_below, eqb-true}
+use Rattle.std.proofs.lemmas.Bool.{cases_eq}
 use Rattle.interface.specs.Meaning.{Keying}
 use Rattle.model.specs.Lists.{sum_of, mapped}
 use Rattle.model.specs.Entries as model
@@ -12,13 +12,12 @@ use Rattle.ring_slab.specs.Holding.{total}
 use Rattle.ring_slab.proofs.Counts.{one_at, one_off, count_append, count_head}
 use Rattle.shard.specs.declared.entry.Entry.{Entry}
 use Rattle.shard.specs.declared.entry.Entry.TheVariants as E
-use Rattle.shard.specs.declared.entry.ResidentState.{ResidentState}
-use Rattle.shard.specs.declared.entry.ResidentState.TheVariants as S
 use Rattle.shard.specs.declared.ring.RingName.TheVariants.{Hot, Cold, Ghosts}
-use Rattle.shard.specs.declared.cache_shard.CacheShard.{CacheShard}
+use Rattle.shard.specs.declared.layout.Layout.{Layout}
 use Rattle.shard.specs.Tallies.{by_state, hot_one, cold_one, ghost_one, hot_share, cold_share}
-use Rattle.shard.specs.Layout.{Places, Kind, in_ring, off_rings, kind_of, slots, entry_at, hash_at, Stands}
+use Rattle.shard.specs.Layout.{Places, in_ring, off_rings, kind_of, slots, entry_at, hash_at, Stands}
 use Rattle.shard.specs.Shows.{part, plain, waiting, Shown, Shows}
+use Rattle.shard.proofs.Standing.{places_below}
 use Rattle.shard.proofs.Views.{length_mapped, as_long}
 
 -- ---- sums over numbers below m
@@ -82,7 +81,7 @@ pub sum_of_none : (f : ℕ → ℕ) (xs : List ℕ) → ((k : ℕ) → 1 ≤ cou
 sum_of_none f [] h = refl
 sum_of_none f (x ∷ xs) h = omega (arith, h x (count_head x xs), sum_of_none f xs (λ k l. h k (omega arith)))
 
-sum_ones : (f : ℕ → ℕ) (xs : List ℕ) → ((k : ℕ) → 1 ≤ count k xs → f k ≡ 1) → sum_of f xs ≡ length xs
+pub sum_ones : (f : ℕ → ℕ) (xs : List ℕ) → ((k : ℕ) → 1 ≤ count k xs → f k ≡ 1) → sum_of f xs ≡ length xs
 sum_ones f [] h = refl
 sum_ones f (x ∷ xs) h = omega (arith, h x (count_head x xs), sum_ones f xs (λ k l. h k (omega arith)))
 
@@ -95,7 +94,7 @@ sum_to_list f d (x ∷ l) = split (length l) ∙ ap (λ n. f x + n) (sum_to_list
     split zero = refl
     split (suc m) = omega (arith, split m)
 
-module _ {K V : Type 0} (x : CacheShard K V) (p : Places) (st : Stands x p) where
+module _ {K V : Type 0} (x : Layout K V) (p : Places) (st : Stands x p) where
   -- ---- the sum over all slots is that over the rings, what is in hand and the loose places
   abbrev all_places : List ℕ
   all_places = p.hot ++ (p.cold ++ (p.ghosts ++ ((p.hand ++ p.loose) ++ p.vacant)))
@@ -118,40 +117,12 @@ module _ {K V : Type 0} (x : CacheShard K V) (p : Places) (st : Stands x p) wher
       omega (arith, ap (sum_to g) m, sum_append g p.hot (p.cold ++ (p.ghosts ++ ((p.hand ++ p.loose) ++ p.vacant))), sum_append g p.cold (p.ghosts ++ ((p.hand ++ p.loose) ++ p.vacant)), sum_append g p.ghosts ((p.hand ++ p.loose) ++ p.vacant), sum_append g (p.hand ++ p.loose) p.vacant)
     where
       within : (k : ℕ) → 1 ≤ count k all_places → k < length (slots x)
-      within k l = ⊎_elim (λ lt. lt) (λ ge. absurd (omega (arith, all_count k, st.laid.held.beyond k ge))) (cases_below k (length (slots x)))
+      within k l = places_below st k (omega (arith, all_count k, count_append k p.hand p.loose))
 
 part_one : {X : Type 0} (b : Bool) (m n : X) → by_state (part b) m n ≡ cond b m n
-part_one true m n = refl
-part_one false m n = refl
+part_one b m n = grind arith
 
 -- ---- what the entries of a kind count for
-abbrev kinded : Bool → ResidentState → Kind
-kinded b s = cond b off_rings (by_state s (in_ring Hot) (in_ring Cold))
-
-kinded_hot : (b : Bool) (s : ResidentState) → kinded b s ≡ in_ring Hot → (b ≡ false) × (s ≡ S.Hot)
-kinded_hot true s h = let z : ◌≡◌ {A = ℕ} 0 1 = cc in absurd (omega arith)
-kinded_hot false S.Hot h = (refl, refl)
-kinded_hot false S.Cold h = let z : ◌≡◌ {A = ℕ} 0 1 = cc in absurd (omega arith)
-
-kinded_cold : (b : Bool) (s : ResidentState) → kinded b s ≡ in_ring Cold → (b ≡ false) × (s ≡ S.Cold)
-kinded_cold true s h = let z : ◌≡◌ {A = ℕ} 0 1 = cc in absurd (omega arith)
-kinded_cold false S.Hot h = let z : ◌≡◌ {A = ℕ} 0 1 = cc in absurd (omega arith)
-kinded_cold false S.Cold h = (refl, refl)
-
-kinded_off : (b : Bool) (s : ResidentState) → kinded b s ≡ off_rings → b ≡ true
-kinded_off true s h = refl
-kinded_off false S.Hot h = let z : ◌≡◌ {A = ℕ} 0 1 = cc in absurd (omega arith)
-kinded_off false S.Cold h = let z : ◌≡◌ {A = ℕ} 0 1 = cc in absurd (omega arith)
-
-kinded_ghost : (b : Bool) (s : ResidentState) → kinded b s ≡ in_ring Ghosts → ⊥
-kinded_ghost true s h = let z : ◌≡◌ {A = ℕ} 0 1 = cc in absurd (omega arith)
-kinded_ghost false S.Hot h = let z : ◌≡◌ {A = ℕ} 0 1 = cc in absurd (omega arith)
-kinded_ghost false S.Cold h = let z : ◌≡◌ {A = ℕ} 0 1 = cc in absurd (omega arith)
-
-by_zero : (s : ResidentState) (n : ℕ) → n ≡ 0 → (by_state s n 0 ≡ 0) × (by_state s 0 n ≡ 0)
-by_zero S.Hot n e = (e, refl)
-by_zero S.Cold n e = (refl, e)
-
 module _ {K V : Type 0} where
   abbrev weight_of : Option (Entry K V) → ℕ
   weight_of None = 0
@@ -168,49 +139,19 @@ module _ {K V : Type 0} where
     pub cold_weighs : cold_share o ≡ cold_weight
 
   pub counts_hot : (o : Option (Entry K V)) → kind_of o ≡ in_ring Hot → Counts o 1 0 0 (weight_of o) 0
-  counts_hot None h = let z : ◌≡◌ {A = ℕ} 0 1 = cc in absurd (omega arith)
-  counts_hot (Some (E.Resident r)) h =
-      let s = (kinded_hot (eqb r.weight 0) r.state h).1 in
-      record {
-        hot_is = ap (λ z. by_state z 1 0) s;
-        cold_is = ap (λ z. by_state z 0 1) s;
-        ghost_is = refl;
-        hot_weighs = ap (λ z. by_state z r.weight 0) s;
-        cold_weighs = ap (λ z. by_state z 0 r.weight) s;
-      }
-  counts_hot (Some (E.Placeholder p)) h = let z : ◌≡◌ {A = ℕ} 0 1 = cc in absurd (omega arith)
-  counts_hot (Some E.Ghost) h = let z : ◌≡◌ {A = ℕ} 0 1 = cc in absurd (omega arith)
+  counts_hot o h = grind arith
 
   pub counts_cold : (o : Option (Entry K V)) → kind_of o ≡ in_ring Cold → Counts o 0 1 0 0 (weight_of o)
-  counts_cold None h = let z : ◌≡◌ {A = ℕ} 0 1 = cc in absurd (omega arith)
-  counts_cold (Some (E.Resident r)) h =
-      let s = (kinded_cold (eqb r.weight 0) r.state h).1 in
-      record {
-        hot_is = ap (λ z. by_state z 1 0) s;
-        cold_is = ap (λ z. by_state z 0 1) s;
-        ghost_is = refl;
-        hot_weighs = ap (λ z. by_state z r.weight 0) s;
-        cold_weighs = ap (λ z. by_state z 0 r.weight) s;
-      }
-  counts_cold (Some (E.Placeholder p)) h = let z : ◌≡◌ {A = ℕ} 0 1 = cc in absurd (omega arith)
-  counts_cold (Some E.Ghost) h = let z : ◌≡◌ {A = ℕ} 0 1 = cc in absurd (omega arith)
+  counts_cold o h = grind arith
 
   pub counts_ghost : (o : Option (Entry K V)) → kind_of o ≡ in_ring Ghosts → Counts o 0 0 1 0 0
-  counts_ghost None h = let z : ◌≡◌ {A = ℕ} 0 1 = cc in absurd (omega arith)
-  counts_ghost (Some (E.Resident r)) h = absurd (kinded_ghost (eqb r.weight 0) r.state h)
-  counts_ghost (Some (E.Placeholder p)) h = let z : ◌≡◌ {A = ℕ} 0 1 = cc in absurd (omega arith)
-  counts_ghost (Some E.Ghost) h = record { hot_is = refl; cold_is = refl; ghost_is = refl; hot_weighs = refl; cold_weighs = refl }
+  counts_ghost o h = grind arith
 
   pub counts_off : (o : Option (Entry K V)) → kind_of o ≡ off_rings → Counts o (hot_one o) (cold_one o) 0 0 0
-  counts_off None h = let z : ◌≡◌ {A = ℕ} 0 1 = cc in absurd (omega arith)
-  counts_off (Some (E.Resident r)) h =
-      let z = by_zero r.state r.weight (eqb-true r.weight 0 (kinded_off (eqb r.weight 0) r.state h)) in
-      record { hot_is = refl; cold_is = refl; ghost_is = refl; hot_weighs = z.0; cold_weighs = z.1 }
-  counts_off (Some (E.Placeholder p)) h = record { hot_is = refl; cold_is = refl; ghost_is = refl; hot_weighs = refl; cold_weighs = refl }
-  counts_off (Some E.Ghost) h = let z : ◌≡◌ {A = ℕ} 0 1 = cc in absurd (omega arith)
+  counts_off o h = grind arith
 
   -- ---- the tally of a shard with nothing in hand, ring by ring
-  module _ (x : CacheShard K V) (p : Places) (st : Stands x p) (none : p.hand ≡ []) where
+  module _ (x : Layout K V) (p : Places) (st : Stands x p) (none : p.hand ≡ []) where
     loose_list : p.hand ++ p.loose ≡ p.loose
     loose_list = ap (λ l. l ++ p.loose) none
 
@@ -243,19 +184,16 @@ module _ {K V : Type 0} where
           sum_of_none (λ k. cold_share (entry_at x k)) p.loose (λ k i. (counts_off (entry_at x k) (r.loose k i)).cold_weighs),
         )
 
-  shown_weights : (x : CacheShard K V) (ks : List ℕ) (rs : List (model.Resident K V)) → Shown x ks rs → sum_of (λ k. weight_of (entry_at x k)) ks ≡ model.weights rs
-  shown_weights x ks rs s = sym (sum_of_mapped weight_of (entry_at x) ks) ∙ ap (sum_of weight_of) s ∙ sum_of_mapped weight_of (λ r. Some (plain r)) rs
-
-  -- the weights of the tally are those of the model's rings
-  pub tally_weights : (e : Keying K) (x : CacheShard K V) (p : Places) (t : model.Rings K V) (ps : List (model.Placeholder K)) → Shows e x p t ps → (x.tally.hot_weight ≡ model.weights t.hot) × (x.tally.cold_weight ≡ model.weights t.cold)
-  tally_weights e x p t ps s =
-      (hot_weight_is x p s.stands s.settled ∙ shown_weights x p.hot t.hot s.hot, cold_weight_is x p s.stands s.settled ∙ shown_weights x p.cold t.cold s.cold)
-
-  -- ---- the counts: those in the rings, and those off the rings
-  shown_sum : (f : Option (Entry K V) → ℕ) (x : CacheShard K V) (ks : List ℕ) (rs : List (model.Resident K V)) → Shown x ks rs → sum_of (λ k. f (entry_at x k)) ks ≡ sum_of (λ r. f (Some (plain r))) rs
+  shown_sum : (f : Option (Entry K V) → ℕ) (x : Layout K V) (ks : List ℕ) (rs : List (model.Resident K V)) → Shown x ks rs → sum_of (λ k. f (entry_at x k)) ks ≡ sum_of (λ r. f (Some (plain r))) rs
   shown_sum f x ks rs s = sym (sum_of_mapped f (entry_at x) ks) ∙ ap (sum_of f) s ∙ sum_of_mapped f (λ r. Some (plain r)) rs
 
-  loose_sum : (f : Option (Entry K V) → ℕ) → ((q : model.Placeholder K) → f (Some (waiting q)) ≡ 0) → (e : Keying K) (x : CacheShard K V) (p : Places) (t : model.Rings K V) (ps : List (model.Placeholder K)) → Shows e x p t ps → sum_of (λ k. f (entry_at x k)) p.loose ≡ sum_of (λ r. f (Some (plain r))) t.off
+  -- the weights of the tally are those of the model's rings
+  pub tally_weights : (e : Keying K) (x : Layout K V) (p : Places) (t : model.Rings K V) (ps : List (model.Placeholder K)) → Shows e x p t ps → (x.tally.hot_weight ≡ model.weights t.hot) × (x.tally.cold_weight ≡ model.weights t.cold)
+  tally_weights e x p t ps s =
+      (hot_weight_is x p s.stands s.settled ∙ shown_sum weight_of x p.hot t.hot s.hot, cold_weight_is x p s.stands s.settled ∙ shown_sum weight_of x p.cold t.cold s.cold)
+
+  -- ---- the counts: those in the rings, and those off the rings
+  loose_sum : (f : Option (Entry K V) → ℕ) → ((q : model.Placeholder K) → f (Some (waiting q)) ≡ 0) → (e : Keying K) (x : Layout K V) (p : Places) (t : model.Rings K V) (ps : List (model.Placeholder K)) → Shows e x p t ps → sum_of (λ k. f (entry_at x k)) p.loose ≡ sum_of (λ r. f (Some (plain r))) t.off
   loose_sum f none e x p t ps s =
       let g : ℕ → ℕ = λ k. f (entry_at x k) in
       let c : sum_of g p.loose ≡ sum_of g (s.offs ++ s.waits) = sum_counts g p.loose (s.offs ++ s.waits) (length (slots x)) (λ k. s.loose k ∙ sym (count_append k s.offs s.waits)) within in
@@ -267,8 +205,7 @@ module _ {K V : Type 0} where
       all_zero (q ∷ qs) = omega (arith, none q, all_zero qs)
 
       within : (k : ℕ) → 1 ≤ count k p.loose → k < length (slots x)
-      within k l =
-          ⊎_elim (λ lt. lt) (λ ge. absurd (omega (arith, s.stands.laid.held.beyond k ge, count_append k p.hand p.loose))) (cases_below k (length (slots x)))
+      within k l = places_below s.stands k (omega arith)
 
   -- 1 for a hot resident of the model, and for a cold one
   abbrev pub one_hot : model.Resident K V → ℕ
@@ -277,7 +214,7 @@ module _ {K V : Type 0} where
   abbrev pub one_cold : model.Resident K V → ℕ
   one_cold r = cond r.hot 0 1
 
-  pub tally_counts : (e : Keying K) (x : CacheShard K V) (p : Places) (t : model.Rings K V) (ps : List (model.Placeholder K)) → Shows e x p t ps →
+  pub tally_counts : (e : Keying K) (x : Layout K V) (p : Places) (t : model.Rings K V) (ps : List (model.Placeholder K)) → Shows e x p t ps →
       (x.tally.hot ≡ length t.hot + sum_of one_hot t.off) × (x.tally.cold ≡ length t.cold + sum_of one_cold t.off) × (x.tally.ghosts ≡ length t.ghosts)
   tally_counts e x p t ps s =
       let st = s.stands in

@@ -7,14 +7,12 @@ use Rattle.model.specs.Entries as model
 use Rattle.model.specs.Hands.{Context, pinned, hot_stop}
 use Rattle.ring_slab.specs.Places.{look, count}
 use Rattle.ring_slab.specs.Slots.{nexts, items}
-use Rattle.ring_slab.specs.Rings.{Ring, ring_from, walk}
+use Rattle.ring_slab.specs.Rings.{ring_from, walk}
 use Rattle.ring_slab.specs.declared.linked_slab.LinkedSlab.{LinkedSlab}
 use Rattle.ring_slab.proofs.Counts.{split_at}
 use Rattle.shard.specs.declared.entry.Entry.{Entry}
-use Rattle.shard.specs.declared.entry.Entry.TheVariants as E
 use Rattle.shard.specs.declared.ring.RingName.TheVariants.{Hot}
-use Rattle.shard.specs.declared.cache_shard.CacheShard.{CacheShard}
-use Rattle.shard.specs.Tallies.{hot_one, cold_one, ghost_one, hot_share, cold_share}
+use Rattle.shard.specs.declared.layout.Layout.{Layout}
 use Rattle.shard.specs.Layout.{Places, in_ring, kind_of, slots, entry_at, hash_at, ringed, ring_places, Stands, places, Sound, SameEntries}
 use Rattle.shard.specs.Moves.{TurnsOut}
 use Rattle.shard.specs.Shows.{plain, seen, Shown, Hashed, Shows}
@@ -28,67 +26,29 @@ use Rattle.shard.proofs.Walks.{stop_none}
 
 module _ {K V : Type 0} where
   -- ---- entries that differ in their reads alone
-  kind_unread : (o : Option (Entry K V)) → kind_of (unread o) ≡ kind_of o
-  kind_unread None = refl
-  kind_unread (Some (E.Resident r)) = refl
-  kind_unread (Some (E.Placeholder p)) = refl
-  kind_unread (Some E.Ghost) = refl
-
-  hot_unread : (o : Option (Entry K V)) → (hot_one (unread o) ≡ hot_one o) × (hot_share (unread o) ≡ hot_share o)
-  hot_unread None = (refl, refl)
-  hot_unread (Some (E.Resident r)) = (refl, refl)
-  hot_unread (Some (E.Placeholder p)) = (refl, refl)
-  hot_unread (Some E.Ghost) = (refl, refl)
-
-  cold_unread : (o : Option (Entry K V)) → (cold_one (unread o) ≡ cold_one o) × (cold_share (unread o) ≡ cold_share o)
-  cold_unread None = (refl, refl)
-  cold_unread (Some (E.Resident r)) = (refl, refl)
-  cold_unread (Some (E.Placeholder p)) = (refl, refl)
-  cold_unread (Some E.Ghost) = (refl, refl)
-
-  ghost_unread : (o : Option (Entry K V)) → ghost_one (unread o) ≡ ghost_one o
-  ghost_unread None = refl
-  ghost_unread (Some (E.Resident r)) = refl
-  ghost_unread (Some (E.Placeholder p)) = refl
-  ghost_unread (Some E.Ghost) = refl
-
   alike_reads : (o o' : Option (Entry K V)) → unread o' ≡ unread o → Alike o o'
-  alike_reads o o' e =
-      record {
-        kind = sym (kind_unread o') ∙ ap kind_of e ∙ kind_unread o;
-        hot = sym (hot_unread o').0 ∙ ap hot_one e ∙ (hot_unread o).0;
-        cold = sym (cold_unread o').0 ∙ ap cold_one e ∙ (cold_unread o).0;
-        ghost = sym (ghost_unread o') ∙ ap ghost_one e ∙ ghost_unread o;
-        hot_share = sym (hot_unread o').1 ∙ ap hot_share e ∙ (hot_unread o).1;
-        cold_share = sym (cold_unread o').1 ∙ ap cold_share e ∙ (cold_unread o).1;
-      }
-
-  hashed_unread : (e : Keying K) (h : ℕ) (o : Option (Entry K V)) → Hashed e (unread o) h ≡ Hashed e o h
-  hashed_unread e h None = refl
-  hashed_unread e h (Some (E.Resident r)) = refl
-  hashed_unread e h (Some (E.Placeholder p)) = refl
-  hashed_unread e h (Some E.Ghost) = refl
+  alike_reads o o' e = grind arith
 
   hashed_reads : (e : Keying K) (h : ℕ) (o o' : Option (Entry K V)) → unread o' ≡ unread o → Hashed e o h → Hashed e o' h
-  hashed_reads e h o o' i k = subst (λ z. z) (sym (hashed_unread e h o) ∙ ap (λ z. Hashed e z h) (sym i) ∙ hashed_unread e h o') k
+  hashed_reads e h o o' i k = grind arith
 
   -- ---- the shard over another slab
-  abbrev pub over : LinkedSlab (Entry K V) → CacheShard K V → CacheShard K V
+  abbrev pub over : LinkedSlab (Entry K V) → Layout K V → Layout K V
   over m x = record { slab = m; settings = x.settings; hot = x.hot; cold = x.cold; ghosts = x.ghosts; tally = x.tally; issued = x.issued }
 
   -- ---- how many slots are used, and how long the rings are
-  pub same_size : (x x' : CacheShard K V) → items (slots x') ≡ items (slots x) → length (slots x') ≡ length (slots x)
+  pub same_size : (x x' : Layout K V) → items (slots x') ≡ items (slots x) → length (slots x') ≡ length (slots x)
   same_size x x' e = sym (length-map (slots x') (λ s. s.item)) ∙ ap length e ∙ length-map (slots x) (λ s. s.item)
 
-  pub terms_kept : (x x' : CacheShard K V) → SameEntries x x' → SameTerms x x'
-  terms_kept x x' e = record { settings = e.settings; issued = e.issued; size = same_size x x' e.items }
+  pub terms_kept : (x x' : Layout K V) → SameEntries x x' → SameTerms x x'
+  terms_kept x x' e = grind (arith, same_size)
 
-  pub used_same : (x x' : CacheShard K V) (p p' : Places) → Stands x p → Stands x' p' → length p'.vacant ≡ length p.vacant → length (slots x') ≡ length (slots x) → x'.slab.used ≡ x.slab.used
+  pub used_same : (x x' : Layout K V) (p p' : Places) → Stands x p → Stands x' p' → length p'.vacant ≡ length p.vacant → length (slots x') ≡ length (slots x) → x'.slab.used ≡ x.slab.used
   used_same x x' p p' w w' v n = omega (arith, w.laid.held.counted, w'.laid.held.counted)
 
   -- ---- after a walk that took reads
-  module _ (x : CacheShard K V) (m : LinkedSlab (Entry K V)) (shape : SameShape x.slab m) (only : OnlyReads (slots x) (slots (over m x))) where
-    walked : CacheShard K V
+  module _ (x : Layout K V) (m : LinkedSlab (Entry K V)) (shape : SameShape x.slab m) (only : OnlyReads (slots x) (slots (over m x))) where
+    walked : Layout K V
     walked = over m x
 
     frame : SameFrame x (over m x)
@@ -122,7 +82,7 @@ module _ {K V : Type 0} where
         }
 
   -- ---- what `take_hot` promises
-  pub record Took (pins : K → V → Bool) (x x' : CacheShard K V) (answer : Option ℕ) : Type 0 where
+  pub record Took (pins : K → V → Bool) (x x' : Layout K V) (answer : Option ℕ) : Type 0 where
     pub sound : Sound x' (listed answer)
     pub kind : IfSome answer (λ at. kind_of (entry_at x' at) ≡ in_ring Hot)
     pub used : NoMoreUsed x x'
@@ -131,23 +91,15 @@ module _ {K V : Type 0} where
     pub model : TakesHot pins x x' answer
 
   -- the ring is empty
-  pub took_none : (pins : K → V → Bool) (x : CacheShard K V) → Sound x [] → x.hot.head ≡ None → Took pins x x None
-  took_none pins x sound none =
-      record {
-        sound = sound;
-        kind = tt;
-        used = record { terms = record { settings = refl; issued = refl; size = refl }; used = omega arith };
-        hot = omega arith;
-        cold = refl;
-        model = λ e u p t ps _ s.
-            let empty : p.hot ≡ [] = headless s.stands Hot none in
-            let no_rs : t.hot ≡ [] = none_of_them (entry_at x) (λ r. Some (plain r)) t.hot (ap (seen x) (sym empty) ∙ s.hot) in
-            let same : t.hot ≡ mapped model.less_read t.hot = no_rs ∙ ap (mapped model.less_read) (sym no_rs) in
-            subst (λ o. Taken e x t ps o None) (sym (stop_none u t.hot (ap (every (pinned u)) no_rs)))
-            (p, subst (λ rs. Shows e x p (model.put model.hot_ring rs t) ps) same s);
-      }
+  pub took_none : (pins : K → V → Bool) (x : Layout K V) → x.hot.head ≡ None → TakesHot pins x x None
+  took_none pins x none e u p t ps _ s =
+      let empty : p.hot ≡ [] = headless s.stands Hot none in
+      let no_rs : t.hot ≡ [] = none_of_them (entry_at x) (λ r. Some (plain r)) t.hot (ap (seen x) (sym empty) ∙ s.hot) in
+      let same : t.hot ≡ mapped model.less_read t.hot = no_rs ∙ ap (mapped model.less_read) (sym no_rs) in
+      subst (λ o. Taken e x t ps o None) (sym (stop_none u t.hot (ap (every (pinned u)) no_rs)))
+      (p, subst (λ rs. Shows e x p (model.put model.hot_ring rs t) ps) same s)
 
-  module _ (pins : K → V → Bool) (x : CacheShard K V) (m : LinkedSlab (Entry K V)) (head : ℕ) (sound : Sound x []) (is : x.hot.head ≡ Some head) (shape : SameShape x.slab m) (only : OnlyReads (slots x) (slots (over m x)))
+  module _ (pins : K → V → Bool) (x : Layout K V) (m : LinkedSlab (Entry K V)) (head : ℕ) (sound : Sound x []) (is : x.hot.head ≡ Some head) (shape : SameShape x.slab m) (only : OnlyReads (slots x) (slots (over m x)))
       (off : (k : ℕ) → count k (walk (look (nexts (slots x))) head x.hot.len) ≡ 0 → entry_at (over m x) k ≡ entry_at x k) where
     abbrev ring : List ℕ
     ring = walk (look (nexts (slots x))) head x.hot.len
@@ -157,13 +109,6 @@ module _ {K V : Type 0} where
 
     ring_of : (p : Places) → Stands x p → p.hot ≡ ring
     ring_of p w = sym (ring_is w Hot) ∙ ring_there
-
-    -- a ring still, and the same
-    pub ring_after : ring_places Hot (over m x) ≡ ring
-    ring_after = ap (λ h. ring_from (slots (over m x)) h x.hot.len) is ∙ ap (λ (n : List ℕ). walk (look n) head x.hot.len) shape.links.nexts
-
-    pub ring_before : Ring (slots x) ring
-    ring_before = subst (Ring (slots x)) (ring_of (places x []) sound) sound.laid.held.each.0
 
     terms : SameTerms x (over m x)
     terms = record { settings = refl; issued = refl; size = shape.links.len }
@@ -192,7 +137,7 @@ module _ {K V : Type 0} where
         go e u p t ps s (here b q a) st = st
 
     -- it stopped, and the place was turned out
-    module _ (at : ℕ) (there : 1 ≤ count at ring) (x' : CacheShard K V) (sound' : Sound x' (at ∷ [])) (turns : TurnsOut Hot at (over m x) x') (same : SameEntries (over m x) x') where
+    module _ (at : ℕ) (there : 1 ≤ count at ring) (x' : Layout K V) (sound' : Sound x' (at ∷ [])) (turns : TurnsOut Hot at (over m x) x') (same : SameEntries (over m x) x') where
       turned : (p : Places) → Stands x p → p.hand ≡ [] → (c d : List ℕ) → ring ≡ c ++ at ∷ d → Stands x' (ringed Hot (d ++ c) (at ∷ []) p)
       turned p w none c d split = turns p c d (walked_stands x m shape only p w) none (ring_of p w ∙ split)
 

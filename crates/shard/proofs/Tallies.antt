@@ -1,20 +1,16 @@
 -- The recount: what one entry more or less makes of it, and how large it can be.
-use Rattle.std.proofs.Common.{◌≡◌, ℕ, ◌+◌, ◌^◌, ◌<◌, ◌≤◌, cond, eqb, List, [], ◌∷◌, ◌++◌, length, get_or, take, set, Some, None, Option, sym, refl, ap, ◌∙◌, subst, ⊎_elim, arith}
+use Rattle.std.proofs.Common.{◌≡◌, ℕ, ◌+◌, ◌^◌, ◌<◌, ◌≤◌, List, [], ◌∷◌, ◌++◌, length, get_or, take, set, None, Option, sym, ap, ◌∙◌, subst, ⊎_elim, arith}
 use Rattle.std.proofs.lemmas.List.{length-map, length-take, get_or-take, get_or_past, take_more}
 use Rattle.std.proofs.lemmas.Bool.{cases_lt}
 use Rattle.model.specs.Lists.{sum_of}
+use Rattle.model.proofs.Lists.{sum_append}
 use Rattle.ring_slab.specs.Slots.{items}
 use Rattle.shard.specs.declared.entry.Entry.{Entry}
-use Rattle.shard.specs.declared.entry.Entry.TheVariants.{Resident, Placeholder, Ghost}
-use Rattle.shard.specs.declared.entry.Resident as R
-use Rattle.shard.specs.declared.entry.ResidentState.{ResidentState}
-use Rattle.shard.specs.declared.entry.ResidentState.TheVariants.{Hot, Cold}
 use Rattle.shard.specs.declared.tally.Tally.{Tally}
-use Rattle.shard.specs.declared.cache_shard.CacheShard.{CacheShard}
-use Rattle.shard.specs.Tallies.{by_state, hot_one, cold_one, ghost_one, hot_share, cold_share, recounted, counted_in}
-use Rattle.shard.specs.declared.ring.RingName.TheVariants as ring
-use Rattle.shard.specs.Layout.{slots, in_ring, off_rings, kind_of, entry_at, Counted}
-use Rattle.shard.proofs.Counts.{sum_set, sum_at_least, sum_at_most, sum_same, sum_push}
+use Rattle.shard.specs.declared.layout.Layout.{Layout}
+use Rattle.shard.specs.Tallies.{hot_one, cold_one, ghost_one, hot_share, cold_share, recounted, counted_in}
+use Rattle.shard.specs.Layout.{slots, kind_of, entry_at, Counted}
+use Rattle.shard.proofs.Counts.{sum_set, sum_at_least, sum_at_most, sum_same}
 
 -- Each weight is one of 32 bits.
 abbrev pub Small : {K V : Type 0} → Option (Entry K V) → Type 0
@@ -28,21 +24,10 @@ pub record Bounded (t : Tally) : Type 0 where
   pub hot_weight : t.hot_weight < 2 ^ 52
   pub cold_weight : t.cold_weight < 2 ^ 52
 
-by_state_at_most : (s : ResidentState) (x y m : ℕ) → x ≤ m → y ≤ m → by_state s x y ≤ m
-by_state_at_most Hot x y m a b = a
-by_state_at_most Cold x y m a b = b
-
-by_state_either : (s : ResidentState) → by_state s 1 0 + by_state s 0 1 ≡ 1
-by_state_either Hot = refl
-by_state_either Cold = refl
-
 module _ {K V : Type 0} where
   -- an entry counts once at most
   pub one_each : (e : Option (Entry K V)) → hot_one e + cold_one e + ghost_one e ≤ 1
-  one_each None = omega arith
-  one_each (Some (Resident r)) = omega (arith, by_state_either r.state)
-  one_each (Some (Placeholder p)) = omega arith
-  one_each (Some Ghost) = omega arith
+  one_each e = grind arith
 
   counts_together : (is : List (Option (Entry K V))) → sum_of hot_one is + sum_of cold_one is + sum_of ghost_one is ≤ length is
   counts_together [] = omega arith
@@ -71,31 +56,15 @@ module _ {K V : Type 0} where
 
   -- a tally is the one that it is with the same entry more
   pub counted_out : (e : Option (Entry K V)) (s t : Tally) → counted_in e s ≡ counted_in e t → s ≡ t
-  counted_out e s t h =
-      let hot : s.hot ≡ t.hot = omega (arith, ap (λ t. t.hot) h) in
-      let cold : s.cold ≡ t.cold = omega (arith, ap (λ t. t.cold) h) in
-      let ghosts : s.ghosts ≡ t.ghosts = omega (arith, ap (λ t. t.ghosts) h) in
-      let hot_weight : s.hot_weight ≡ t.hot_weight = omega (arith, ap (λ t. t.hot_weight) h) in
-      let cold_weight : s.cold_weight ≡ t.cold_weight = omega (arith, ap (λ t. t.cold_weight) h) in
-      λ i. record { hot = hot i; cold = cold i; ghosts = ghosts i; hot_weight = hot_weight i; cold_weight = cold_weight i }
+  counted_out e s t h = grind arith
 
   -- the order in which entries are counted makes no difference
   pub counted_both : (d e : Option (Entry K V)) (t : Tally) → counted_in d (counted_in e t) ≡ counted_in e (counted_in d t)
-  counted_both d e t =
-      let swap : (a b c : ℕ) → a + b + c ≡ a + c + b = λ a b c. omega arith in
-      λ i. record {
-        hot = swap t.hot (hot_one e) (hot_one d) i;
-        cold = swap t.cold (cold_one e) (cold_one d) i;
-        ghosts = swap t.ghosts (ghost_one e) (ghost_one d) i;
-        hot_weight = swap t.hot_weight (hot_share e) (hot_share d) i;
-        cold_weight = swap t.cold_weight (cold_share e) (cold_share d) i;
-      }
+  counted_both d e t = grind arith
 
   -- nothing more where there is no entry
   pub counted_none : (e : Option (Entry K V)) (t : Tally) → e ≡ None → counted_in e t ≡ t
-  counted_none e t z =
-      let same : (a : ℕ) → a + 0 ≡ a = λ a. omega arith in
-      ap (λ e. counted_in e t) z ∙ λ i. record { hot = same t.hot i; cold = same t.cold i; ghosts = same t.ghosts i; hot_weight = same t.hot_weight i; cold_weight = same t.cold_weight i }
+  counted_none e t z = grind arith
 
   -- t counts all but the entry at i, and with `new` it counts what stands after that is written
   pub recounted_over : (is : List (Option (Entry K V))) (i : ℕ) (new : Option (Entry K V)) (t : Tally) → i < length is → counted_in (get_or is i None) t ≡ recounted is → counted_in new t ≡ recounted (set is i new)
@@ -123,7 +92,7 @@ module _ {K V : Type 0} where
   -- one slot more
   recounted_more : (is : List (Option (Entry K V))) (i : ℕ) → i < length is → recounted (take (i + 1) is) ≡ counted_in (get_or is i None) (recounted (take i is))
   recounted_more is i h =
-      let push : (f : Option (Entry K V) → ℕ) → sum_of f (take i is ++ get_or is i None ∷ []) ≡ sum_of f (take i is) + f (get_or is i None) = λ f. sum_push f (take i is) (get_or is i None) in
+      let push : (f : Option (Entry K V) → ℕ) → sum_of f (take i is ++ get_or is i None ∷ []) ≡ sum_of f (take i is) + f (get_or is i None) = λ f. omega (arith, sum_append f (take i is) (get_or is i None ∷ [])) in
       ap recounted (take_more is i None h) ∙ λ t. record { hot = push hot_one t; cold = push cold_one t; ghosts = push ghost_one t; hot_weight = push hot_share t; cold_weight = push cold_share t }
 
   pub recounted_next : (is : List (Option (Entry K V))) (i : ℕ) (e : Option (Entry K V)) (t t' : Tally) → i < length is → e ≡ get_or is i None → t ≡ recounted (take i is) → t' ≡ counted_in e t → t' ≡ recounted (take (i + 1) is)
@@ -139,21 +108,6 @@ module _ {K V : Type 0} where
     pub hot_share : hot_share e' ≡ hot_share e
     pub cold_share : cold_share e' ≡ cold_share e
 
-  pub alike_same : {e e' : Option (Entry K V)} → e' ≡ e → Alike e e'
-  alike_same h = record { kind = ap kind_of h; hot = ap hot_one h; cold = ap cold_one h; ghost = ap ghost_one h; hot_share = ap hot_share h; cold_share = ap cold_share h }
-
-  -- the reads, the key and the record count for nothing
-  pub alike_residents : (r r' : R.Resident K V) → r'.state ≡ r.state → r'.weight ≡ r.weight → Alike (Some (Resident r)) (Some (Resident r'))
-  alike_residents r r' s w =
-      record {
-        kind = ap (λ n. cond (eqb n 0) off_rings (by_state r'.state (in_ring ring.Hot) (in_ring ring.Cold))) w ∙ ap (λ s. cond (eqb r.weight 0) off_rings (by_state s (in_ring ring.Hot) (in_ring ring.Cold))) s;
-        hot = ap (λ s. by_state s 1 0) s;
-        cold = ap (λ s. by_state s 0 1) s;
-        ghost = refl;
-        hot_share = ap (λ n. by_state r'.state n 0) w ∙ ap (λ s. by_state s r.weight 0) s;
-        cold_share = ap (λ n. by_state r'.state 0 n) w ∙ ap (λ s. by_state s 0 r.weight) s;
-      }
-
   pub recounted_same : (is is' : List (Option (Entry K V))) → length is' ≡ length is → ((k : ℕ) → Alike (get_or is k None) (get_or is' k None)) → recounted is' ≡ recounted is
   recounted_same is is' n same =
       λ t. record {
@@ -164,7 +118,7 @@ module _ {K V : Type 0} where
         cold_weight = sum_same cold_share None is is' n (λ k. (same k).cold_share) t;
       }
 
-  module _ {x : CacheShard K V} (w : Counted x) where
+  module _ {x : Layout K V} (w : Counted x) where
     -- all that are counted are in slots
     pub tally_counts : x.tally.hot + x.tally.cold + x.tally.ghosts ≤ length (slots x)
     tally_counts =
@@ -185,12 +139,4 @@ module _ {K V : Type 0} where
 
     -- the tally without one entry
     pub others_bounded : length (slots x) ≤ 1048576 → (o : Option (Entry K V)) (t : Tally) → counted_in o t ≡ x.tally → Bounded t
-    others_bounded size o t e =
-        let b = tally_bounded size in
-        record {
-          hot = omega (arith, ap (λ t. t.hot) e);
-          cold = omega (arith, ap (λ t. t.cold) e);
-          ghosts = omega (arith, ap (λ t. t.ghosts) e);
-          hot_weight = omega (arith, ap (λ t. t.hot_weight) e);
-          cold_weight = omega (arith, ap (λ t. t.cold_weight) e);
-        }
+    others_bounded size o t e = let b = tally_bounded size in grind arith

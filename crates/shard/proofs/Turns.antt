@@ -1,7 +1,7 @@
 -- The steps of the hands: promoting, bounding the ghosts, and one step of each hand against the model's.
-use Rattle.std.proofs.Common.{◌≡◌, ℕ, ◌+◌, ◌-◌, ◌<◌, ◌≤◌, Bool, true, false, cond, eqb, ltb, List, [], ◌∷◌, ◌++◌, length, set, Some, None, Option, sym, refl, ap, ◌∙◌, subst, inl, arith}
+use Rattle.std.proofs.Common.{◌≡◌, ℕ, ◌+◌, ◌-◌, ◌<◌, ◌≤◌, Bool, true, false, cond, ltb, List, [], ◌∷◌, ◌++◌, length, set, Some, None, sym, refl, ap, ◌∙◌, subst, inl, arith}
 use Rattle.std.proofs.lemmas.List.{append-nil, length-append, length_push}
-use Rattle.std.proofs.lemmas.Bool.{cond-true, cond-false, lt-ltb, le-ltb, true≢false, false≢true}
+use Rattle.std.proofs.lemmas.Bool.{cond-true, cond-false, lt-ltb, le-ltb}
 use Rattle.interface.specs.Meaning.{Keying, Life}
 use Rattle.settings.specs.Standing.{limits}
 use Rattle.model.specs.Lists.{mapped, tail, Pick, nothing, here, when}
@@ -15,39 +15,30 @@ use Rattle.ring_slab.proofs.Counts.{count_append, count_head}
 use Rattle.shard.specs.declared.entry.Entry.{Entry}
 use Rattle.shard.specs.declared.entry.Entry.TheVariants as E
 use Rattle.shard.specs.declared.entry.Resident.{Resident}
-use Rattle.shard.specs.declared.entry.ResidentState.{ResidentState}
 use Rattle.shard.specs.declared.entry.ResidentState.TheVariants as S
 use Rattle.shard.specs.declared.ring.RingName.TheVariants.{Hot, Cold, Ghosts}
-use Rattle.shard.specs.declared.cache_shard.CacheShard.{CacheShard}
-use Rattle.shard.specs.Tallies.{by_state}
-use Rattle.shard.specs.Layout.{Places, slots, entry_at, hash_at, in_ring, off_rings, kind_of, ringed, freed, ring_places, Stands, places, Sound, SameEntries}
+use Rattle.shard.specs.declared.layout.Layout.{Layout}
+use Rattle.shard.specs.Layout.{Places, slots, entry_at, hash_at, in_ring, kind_of, ringed, freed, ring_places, Stands, places, Sound, SameEntries}
 use Rattle.shard.specs.Moves.{Appends, TurnsOut, Overwrites, Releases}
 use Rattle.shard.specs.Shows.{plain, Shown, Hashed, Shows}
 use Rattle.shard.specs.Carries.{Carries}
 use Rattle.shard.specs.Steps.{context_of, FollowsHand, FollowsRings, left_to_do, SameTerms, NoMoreUsed, Falls}
 use Rattle.shard.specs.Hands.{Halted, Taken, TakesHot, Promotes, BoundsGhosts, leaves_cold, SameLengths, LetsGo}
-use Rattle.shard.proofs.Standing.{ring_is, places_most}
+use Rattle.shard.proofs.Standing.{kind_ghost, ring_is, places_most}
 use Rattle.shard.proofs.Views.{joins, length_mapped, contents_of, contents_kept, entry_kept, with_cold, with_ghosts, hot_push, shows_from}
 use Rattle.shard.proofs.Walks.{halted_none, halted_at}
 use Rattle.shard.proofs.Takes.{same_size, terms_kept, used_same}
-use Rattle.shard.proofs.Evictions.{rewritten, dropped, same_resident, kinded_state}
+use Rattle.shard.proofs.Evictions.{rewritten, dropped, same_resident}
 
 module _ {K V : Type 0} where
-  pub used_trans : (x x' x'' : CacheShard K V) → NoMoreUsed x x' → NoMoreUsed x' x'' → NoMoreUsed x x''
-  used_trans x x' x'' a b =
-      record {
-        terms = record { settings = b.terms.settings ∙ a.terms.settings; issued = b.terms.issued ∙ a.terms.issued; size = b.terms.size ∙ a.terms.size };
-        used = omega (arith, a.used, b.used);
-      }
+  pub used_trans : (x x' x'' : Layout K V) → NoMoreUsed x x' → NoMoreUsed x' x'' → NoMoreUsed x x''
+  used_trans x x' x'' a b = grind arith
 
   -- ---- promoting
   abbrev pub raised_to : ℕ → Resident K V → Entry K V
   raised_to n rp = E.Resident (record { key = rp.key; weight = rp.weight; value = rp.value; state = S.Hot; reads = n })
 
-  module _ (x x₁ x₂ : CacheShard K V) (at : ℕ) (rp : Resident K V) (n : ℕ) (sound : Sound x (at ∷ [])) (kind : kind_of (entry_at x at) ≡ in_ring Cold) (is : entry_at x at ≡ Some (E.Resident rp)) where
-    pub raised_kind : kind_of (Some (raised_to n rp)) ≡ in_ring Hot
-    raised_kind = cond-false (eqb rp.weight 0) off_rings (in_ring Hot) (kinded_state (eqb rp.weight 0) rp.state Cold (ap kind_of (sym is) ∙ kind)).0
-
+  module _ (x x₁ x₂ : Layout K V) (at : ℕ) (rp : Resident K V) (n : ℕ) (sound : Sound x (at ∷ [])) (kind : kind_of (entry_at x at) ≡ in_ring Cold) (is : entry_at x at ≡ Some (E.Resident rp)) where
     pub record Promoted : Type 0 where
       pub used : NoMoreUsed x x₂
       pub hot : x₂.hot.len ≡ x.hot.len + 1
@@ -75,40 +66,25 @@ module _ {K V : Type 0} where
               (ringed Hot (p.hot ++ at ∷ []) [] p, shows_from (adds p c.stands c.held) refl (contents_kept x₁ x₂ kept (hot_push c.contents at [] (model.promoted r) (c.entry ∙ ap Some entry))));
         }
 
-  -- ---- the oldest ghost goes
-  ghost_by_kind : (o : Option (Entry K V)) → kind_of o ≡ in_ring Ghosts → o ≡ Some E.Ghost
-  ghost_by_kind None k = let z : ◌≡◌ {A = ℕ} 0 1 = cc in absurd (omega arith)
-  ghost_by_kind (Some (E.Resident r)) k = absurd (no_ghost r.state (kinded_state (eqb r.weight 0) r.state Ghosts k).1)
-    where
-      no_ghost : (s : ResidentState) → by_state s (in_ring Hot) (in_ring Cold) ≡ in_ring Ghosts → ⊥
-      no_ghost S.Hot e = let z : ◌≡◌ {A = ℕ} 0 1 = cc in omega arith
-      no_ghost S.Cold e = let z : ◌≡◌ {A = ℕ} 0 1 = cc in omega arith
-  ghost_by_kind (Some (E.Placeholder p)) k = let z : ◌≡◌ {A = ℕ} 0 1 = cc in absurd (omega arith)
-  ghost_by_kind (Some E.Ghost) k = refl
-
+-- ---- the oldest ghost goes
 head_is : (at : ℕ) (xs : List ℕ) → Some at ≡ head_of xs → (rest : List ℕ) × (xs ≡ at ∷ rest)
-head_is at [] e = let z : ◌≡◌ {A = ℕ} 0 1 = cc in absurd (omega arith)
-head_is at (y ∷ ys) e = let i : at ≡ y = cc in (ys, ap (λ z. z ∷ ys) (sym i))
+head_is at [] e = cc
+head_is at (y ∷ ys) e = (ys, cc)
 
 module _ {K V : Type 0} where
-  pub record BoundedGhosts (x x' : CacheShard K V) : Type 0 where
+  pub record BoundedGhosts (x x' : Layout K V) : Type 0 where
     pub used : NoMoreUsed x x'
     pub lengths : SameLengths x x'
     pub model : BoundsGhosts x x'
 
-  ghosts_long : (e : Keying K) (x : CacheShard K V) (p : Places) (t : model.Rings K V) (ps : List (model.Placeholder K)) → Shows e x p t ps → length t.ghosts ≡ x.ghosts.len
+  ghosts_long : (e : Keying K) (x : Layout K V) (p : Places) (t : model.Rings K V) (ps : List (model.Placeholder K)) → Shows e x p t ps → length t.ghosts ≡ x.ghosts.len
   ghosts_long e x p t ps s = ap length (sym s.ghosts) ∙ length_mapped (hash_at x) p.ghosts ∙ sym s.stands.laid.ghosts.len
 
-  pub bounds_none : (x : CacheShard K V) → x.ghosts.len ≤ (limits x.settings).bound → BoundedGhosts x x
-  bounds_none x few =
-      record {
-        used = record { terms = record { settings = refl; issued = refl; size = refl }; used = omega arith };
-        lengths = record { hot = refl; cold = refl };
-        model = λ e p t ps s.
-            (p, subst (λ gs. Shows e x p (model.put_ghosts gs t) ps) (sym (cond-false (ltb (limits x.settings).bound (length t.ghosts)) (tail t.ghosts) t.ghosts (le-ltb (limits x.settings).bound (length t.ghosts) (omega (arith, ghosts_long e x p t ps s))))) s);
-      }
+  pub bounds_none : (x : Layout K V) → x.ghosts.len ≤ (limits x.settings).bound → BoundsGhosts x x
+  bounds_none x few e p t ps s =
+      (p, subst (λ gs. Shows e x p (model.put_ghosts gs t) ps) (sym (cond-false (ltb (limits x.settings).bound (length t.ghosts)) (tail t.ghosts) t.ghosts (le-ltb (limits x.settings).bound (length t.ghosts) (omega (arith, ghosts_long e x p t ps s))))) s)
 
-  module _ (x x₁ x₂ : CacheShard K V) (at : ℕ) (sound : Sound x []) (head : x.ghosts.head ≡ Some at) where
+  module _ (x x₁ x₂ : Layout K V) (at : ℕ) (sound : Sound x []) (head : x.ghosts.head ≡ Some at) where
     rest_of : (p : Places) → Stands x p → (rest : List ℕ) × (p.ghosts ≡ at ∷ rest)
     rest_of p w = head_is at p.ghosts (sym head ∙ w.laid.ghosts.head)
 
@@ -131,7 +107,7 @@ module _ {K V : Type 0} where
               record {
                 stands = out p [] q.0 s.stands s.settled q.1;
                 held = refl;
-                entry = entry_kept x x₁ kept at ∙ ghost_by_kind (entry_at x at) (s.stands.ranked.ghosts at there);
+                entry = entry_kept x x₁ kept at ∙ kind_ghost (entry_at x at) (s.stands.ranked.ghosts at there);
                 contents = contents_kept x x₁ kept (with_ghosts (contents_of s) (q.0 ++ []) (at ∷ []) (tail t.ghosts) fewer);
               } in
               (freed (at ∷ p.vacant) [] (ringed Ghosts (q.0 ++ []) (at ∷ []) p), subst (λ gs. Shows e x₂ (freed (at ∷ p.vacant) [] (ringed Ghosts (q.0 ++ []) (at ∷ []) p)) (model.put_ghosts gs t) ps) (sym bound) (dropped c x₂ rl set_items hs));
@@ -139,10 +115,10 @@ module _ {K V : Type 0} where
 
 -- ---- one step of a hand
 module _ {S K V : Type 0} (weigh : K → V → ℕ) (l : Life S K V) where
-  context_same : (x x' : CacheShard K V) → x'.settings ≡ x.settings → (e : Keying K) (s₀ : S) → context_of weigh l e x' s₀ ≡ context_of weigh l e x s₀
+  context_same : (x x' : Layout K V) → x'.settings ≡ x.settings → (e : Keying K) (s₀ : S) → context_of weigh l e x' s₀ ≡ context_of weigh l e x s₀
   context_same x x' same e s₀ = ap (λ z. context e (policy weigh l s₀) (limits z)) same
 
-  module _ (x x' : CacheShard K V) (q : S) where
+  module _ (x x' : Layout K V) (q : S) where
     pub hot_no : TakesHot l.pins x x' None → FollowsHand weigh l hot_hand x x' false q q
     unfolding hot_hand
     hot_no takes e s₀ p t ps qe s = go (hot_stop (context_of weigh l e x s₀) t.hot) (takes e (context_of weigh l e x s₀) p t ps refl s)
@@ -152,7 +128,7 @@ module _ {S K V : Type 0} (weigh : K → V → ℕ) (l : Life S K V) where
         go nothing k = (refl, qe, k)
         go (here b r a) k = absurd k
 
-    pub hot_yes : (x'' : CacheShard K V) (q' : S) (at : ℕ) → x'.settings ≡ x.settings → TakesHot l.pins x x' (Some at) → LetsGo weigh l evict at x' x'' q q' → FollowsHand weigh l hot_hand x x'' true q q'
+    pub hot_yes : (x'' : Layout K V) (q' : S) (at : ℕ) → x'.settings ≡ x.settings → TakesHot l.pins x x' (Some at) → LetsGo weigh l evict at x' x'' q q' → FollowsHand weigh l hot_hand x x'' true q q'
     unfolding hot_hand
     hot_yes x'' q' at same takes goes e s₀ p t ps qe s = go (hot_stop (context_of weigh l e x s₀) t.hot) (takes e (context_of weigh l e x s₀) p t ps refl s)
       where
@@ -165,7 +141,7 @@ module _ {S K V : Type 0} (weigh : K → V → ℕ) (l : Life S K V) where
             (refl, y.0, y.1)
 
   -- what the cold hand does with one that has reads, and with one that has none
-  module _ (x x₁ x₂ : CacheShard K V) (at : ℕ) (q q' : S) (rp : Resident K V) (is : entry_at x at ≡ Some (E.Resident rp)) where
+  module _ (x x₁ x₂ : Layout K V) (at : ℕ) (q q' : S) (rp : Resident K V) (is : entry_at x at ≡ Some (E.Resident rp)) where
     pub leaves_read : 0 < rp.reads → x₁.settings ≡ x.settings → Promotes at x x₁ → FollowsRings weigh l cool x₁ x₂ q q' → LetsGo weigh l leaves_cold at x x₂ q q'
     unfolding when
     leaves_read more same promotes cools e s₀ p r t ps qe h =
@@ -183,7 +159,7 @@ module _ {S K V : Type 0} (weigh : K → V → ℕ) (l : Life S K V) where
         let ends : leaves_cold (context_of weigh l e x s₀) r t ≡ evict (context_of weigh l e x s₀) r t = rw i in
         subst (λ z. (q' ≡ state_after l s₀ z.events) × ((p' : Places) × Shows e x₂ p' z ps)) (sym ends) (goes e s₀ p r t ps qe h)
 
-  module _ (x x' : CacheShard K V) (q q' : S) where
+  module _ (x x' : Layout K V) (q q' : S) where
     pub cold_none : (answer : Bool) → Halted l.pins (ring_places Cold x) (slots x) None → FollowsHand weigh l hot_hand x x' answer q q' → FollowsHand weigh l cold_hand x x' answer q q'
     unfolding cold_hand
     cold_none answer halted follows e s₀ p t ps qe s =
@@ -191,7 +167,7 @@ module _ {S K V : Type 0} (weigh : K → V → ℕ) (l : Life S K V) where
         let stop : cold_stop u t.cold ≡ nothing = halted_none u p.cold (slots x) t.cold s.cold (subst (λ z. Halted l.pins z (slots x) None) (ring_is s.stands Cold) halted) in
         subst (λ o. ((cold_found u t o).0 ≡ answer) × (q' ≡ state_after l s₀ (cold_found u t o).1.events) × ((p' : Places) × Shows e x' p' (cold_found u t o).1 ps)) (sym stop) (follows e s₀ p t ps qe s)
 
-    pub cold_some : (x₁ : CacheShard K V) (at : ℕ) → Halted l.pins (ring_places Cold x) (slots x) (Some at) → TurnsOut Cold at x x₁ → SameEntries x x₁ → LetsGo weigh l leaves_cold at x₁ x' q q' → FollowsHand weigh l cold_hand x x' true q q'
+    pub cold_some : (x₁ : Layout K V) (at : ℕ) → Halted l.pins (ring_places Cold x) (slots x) (Some at) → TurnsOut Cold at x x₁ → SameEntries x x₁ → LetsGo weigh l leaves_cold at x₁ x' q q' → FollowsHand weigh l cold_hand x x' true q q'
     unfolding cold_hand
     cold_some x₁ at halted out kept goes e s₀ p t ps qe s =
         let u = context_of weigh l e x s₀ in
@@ -209,13 +185,10 @@ module _ {S K V : Type 0} (weigh : K → V → ℕ) (l : Life S K V) where
         let y = subst (λ u. (q' ≡ state_after l s₀ (leaves_cold u m.middle T).events) × ((p' : Places) × Shows e x' p' (leaves_cold u m.middle T) ps)) (context_same x x₁ kept.settings e s₀) (goes e s₀ (ringed Cold (h.b ++ h.a) (at ∷ []) p) m.middle T ps qe c) in
         subst (λ o. ((cold_found u t o).0 ≡ true) × (q' ≡ state_after l s₀ (cold_found u t o).1.events) × ((p' : Places) × Shows e x' p' (cold_found u t o).1 ps)) (sym h.stops) (refl, y.0, y.1)
 
-module _ {K V : Type 0} (x x' : CacheShard K V) where
+module _ {K V : Type 0} (x x' : Layout K V) where
   -- ---- what a step leaves to do
-  pub falls_no : left_to_do x' ≡ left_to_do x → Falls false x x'
-  falls_no e = record { yes = λ z. absurd (false≢true z); no = λ _. e }
-
   pub falls_yes : left_to_do x' < left_to_do x → Falls true x x'
-  falls_yes h = record { yes = λ _. h; no = λ z. absurd (true≢false z) }
+  falls_yes h = grind arith
 
   -- where the cold hand stopped, the place is in the ring, and out of it the ring is shorter by one
   module _ (at : ℕ) (sound : Sound x []) (pins : K → V → Bool) (halted : Halted pins (ring_places Cold x) (slots x) (Some at)) where

@@ -9,7 +9,7 @@ use Rattle.ring_slab.specs.Places.{count, one, look}
 use Rattle.ring_slab.specs.Slots.{items, hashes}
 use Rattle.ring_slab.proofs.Counts.{count_append, count_head}
 use Rattle.shard.specs.declared.entry.Entry.{Entry}
-use Rattle.shard.specs.declared.cache_shard.CacheShard.{CacheShard}
+use Rattle.shard.specs.declared.layout.Layout.{Layout}
 use Rattle.shard.specs.Layout.{Places, slots, entry_at, hash_at, ringed, loosed, freed, Stands, SameEntries}
 use Rattle.shard.specs.declared.ring.RingName.TheVariants.{Hot, Cold, Ghosts}
 use Rattle.shard.specs.Shows.{plain, seen, Shown, Hashed, Keyed, Shows}
@@ -102,7 +102,7 @@ module _ {X Y : Type 0} (f : ℕ → X) (g : Y → X) where
 
 module _ {K V : Type 0} where
   -- ---- a write to the entry at one place
-  module _ (x x' : CacheShard K V) (at : ℕ) (o : Option (Entry K V)) (is : items (slots x') ≡ set (items (slots x)) at o) where
+  module _ (x x' : Layout K V) (at : ℕ) (o : Option (Entry K V)) (is : items (slots x') ≡ set (items (slots x)) at o) where
     pub entry_set : at < length (slots x) → entry_at x' at ≡ o
     entry_set h = ap (λ (l : List (Option (Entry K V))). get_or l at None) is ∙ get_or-set_same (items (slots x)) at o None (simp length-map h)
 
@@ -128,16 +128,16 @@ module _ {K V : Type 0} where
         (cases_eq k at))
 
   -- ---- what is shown is contents at places with nothing in hand
-  pub contents_of : {e : Keying K} {x : CacheShard K V} {p : Places} {t : model.Rings K V} {ps : List (model.Placeholder K)} → Shows e x p t ps → Contents e x p t ps
+  pub contents_of : {e : Keying K} {x : Layout K V} {p : Places} {t : model.Rings K V} {ps : List (model.Placeholder K)} → Shows e x p t ps → Contents e x p t ps
   contents_of s =
       record { keyed = s.keyed; hot = s.hot; cold = s.cold; ghosts = s.ghosts; offs = s.offs; waits = s.waits; off = s.off; placeholders = s.placeholders; loose = s.loose }
 
-  pub shows_from : {e : Keying K} {x : CacheShard K V} {p : Places} {t : model.Rings K V} {ps : List (model.Placeholder K)} → Stands x p → p.hand ≡ [] → Contents e x p t ps → Shows e x p t ps
+  pub shows_from : {e : Keying K} {x : Layout K V} {p : Places} {t : model.Rings K V} {ps : List (model.Placeholder K)} → Stands x p → p.hand ≡ [] → Contents e x p t ps → Shows e x p t ps
   shows_from st none c =
       record { stands = st; settled = none; keyed = c.keyed; hot = c.hot; cold = c.cold; ghosts = c.ghosts; offs = c.offs; waits = c.waits; off = c.off; placeholders = c.placeholders; loose = c.loose }
 
   -- ---- links alone have changed
-  module _ (x x' : CacheShard K V) (same : SameEntries x x') where
+  module _ (x x' : Layout K V) (same : SameEntries x x') where
     pub entry_kept : (k : ℕ) → entry_at x' k ≡ entry_at x k
     entry_kept k = ap (λ (l : List (Option (Entry K V))). get_or l k None) same.items
 
@@ -162,7 +162,7 @@ module _ {K V : Type 0} where
         }
 
   -- ---- a write at a place that is in no list
-  pub contents_set : (x x' : CacheShard K V) (at : ℕ) (o : Option (Entry K V)) {e : Keying K} {p : Places} {t : model.Rings K V} {ps : List (model.Placeholder K)} → items (slots x') ≡ set (items (slots x)) at o → hashes (slots x') ≡ hashes (slots x) → at < length (slots x) → Hashed e o (hash_at x at) →
+  pub contents_set : (x x' : Layout K V) (at : ℕ) (o : Option (Entry K V)) {e : Keying K} {p : Places} {t : model.Rings K V} {ps : List (model.Placeholder K)} → items (slots x') ≡ set (items (slots x)) at o → hashes (slots x') ≡ hashes (slots x) → at < length (slots x) → Hashed e o (hash_at x at) →
       count at p.hot + count at p.cold + count at p.loose ≡ 0 → Contents e x p t ps → Contents e x' p t ps
   contents_set x x' at o {e} {p} is hs h new out c =
       record {
@@ -178,7 +178,7 @@ module _ {K V : Type 0} where
       }
 
   -- ---- places move
-  module _ {e : Keying K} {x : CacheShard K V} {p : Places} {t : model.Rings K V} {ps : List (model.Placeholder K)} (c : Contents e x p t ps) where
+  module _ {e : Keying K} {x : Layout K V} {p : Places} {t : model.Rings K V} {ps : List (model.Placeholder K)} (c : Contents e x p t ps) where
     -- the hot ring has these, and h is in hand
     pub with_hot : (xs h : List ℕ) (rs : List (model.Resident K V)) → Shown x xs rs → Contents e x (ringed Hot xs h p) (model.put model.hot_ring rs t) ps
     with_hot xs h rs s = record { keyed = c.keyed; hot = s; cold = c.cold; ghosts = c.ghosts; offs = c.offs; waits = c.waits; off = c.off; placeholders = c.placeholders; loose = c.loose }

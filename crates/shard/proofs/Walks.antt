@@ -1,6 +1,7 @@
 -- The walks of the two hands, over slots and in the model.
 use Rattle.std.proofs.Common.{◌≡◌, ℕ, ◌+◌, ◌≤◌, Bool, true, false, not, ◌||◌, ltb, ◌⊎◌, List, [], ◌∷◌, ◌++◌, length, Some, None, Option, sym, refl, ap, ◌∙◌, subst, inl, inr, ⊎_elim, arith}
 use Rattle.std.proofs.lemmas.List.{append-nil, append_assoc}
+use Rattle.std.proofs.Math.Bool.{and-false}
 use Rattle.std.proofs.lemmas.Bool.{and_parts, and_left, or_parts, both_ways}
 use Rattle.model.specs.Lists.{every, mapped, nothing, here, when}
 use Rattle.model.specs.Entries as model
@@ -19,11 +20,11 @@ use Rattle.shard.specs.declared.lap.Lap.TheVariants as L
 use Rattle.shard.specs.Shows.{plain}
 use Rattle.shard.specs.Hands.{worn, held, passes, halts, along, Lie, Worn, OnlyReads, Lapped, Stopped, WalksHot, Halted}
 use Rattle.shard.proofs.Views.{every_mapped, Between, between, joins}
-use Rattle.shard.proofs.Laps.{and_false, links_refl, links_trans, worn_along, kept_along, worn_only}
+use Rattle.shard.proofs.Laps.{links_refl, links_trans, worn_along, kept_along, worn_only}
 
 every_off : {X : Type 0} (f : X → Bool) (a : List X) (r : X) (b : List X) → f r ≡ false → every f (a ++ r ∷ b) ≡ false
 every_off f [] r b e = and_left (f r) (every f b) e
-every_off f (x ∷ a) r b e = rw (every_off f a r b e) (and_false (f x))
+every_off f (x ∷ a) r b e = rw (every_off f a r b e) (and-false (f x))
 
 module _ {K V : Type 0} where
   abbrev entry_of : model.Resident K V → Option (Entry K V)

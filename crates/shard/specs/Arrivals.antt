@@ -1,6 +1,6 @@
 -- Records that come in, against the model: what each part of an insert comes to, from every state of the model that the shard
 -- shows in the middle of a call.
-use Rattle.std.specs.Prelude.{◌≡◌, ℕ, suc, ◌<◌, Bool, true, false, not, ◌&&◌, List, ◌∷◌, ◌++◌, length, Some, nat_le, nat_lt}
+use Rattle.std.specs.Prelude.{◌≡◌, ℕ, suc, Bool, true, false, not, ◌&&◌, List, ◌∷◌, ◌++◌, length, Some, None, Ok, Err, Option, Result, nat_le, nat_lt}
 use Rattle.interface.specs.Meaning.{Keying, Life}
 use Rattle.settings.specs.Standing.{limits}
 use Rattle.model.specs.Lists.{mapped, when}
@@ -15,11 +15,8 @@ use Rattle.shard.specs.declared.entry.Entry.TheVariants as E
 use Rattle.shard.specs.declared.entry.ResidentState.{ResidentState}
 use Rattle.shard.specs.declared.strategy.InsertStrategy.{InsertStrategy}
 use Rattle.shard.specs.declared.strategy.InsertStrategy.TheVariants as I
-use Rattle.shard.specs.declared.strategy.Admission.{Admission}
-use Rattle.shard.specs.declared.strategy.Admission.TheVariants as A
 use Rattle.shard.specs.declared.found.Found.{Found}
-use Rattle.shard.specs.declared.found.Found.TheVariants as F
-use Rattle.shard.specs.declared.cache_shard.CacheShard.{CacheShard}
+use Rattle.shard.specs.declared.layout.Layout.{Layout}
 use Rattle.shard.specs.Tallies.{by_state}
 use Rattle.shard.specs.Layout.{Places, slots, hash_at}
 use Rattle.shard.specs.Shows.{plain, waiting, seen, Shows}
@@ -35,20 +32,15 @@ as_spot (calls.placeholder_at b q a) = model.nowhere
 as_spot (calls.ghost_at b g a) = model.nowhere
 
 -- what was found is kept under the hash of k
-abbrev pub Coded : {K V : Type 0} → Keying K → K → CacheShard K V → Found K V → Type 0
-Coded e k x F.Nothing = Unit {0}
-Coded e k x (F.At at entry) = hash_at x at ≡ e.code k
-
--- a slot is free, where nothing was found
-abbrev pub Room : {K V : Type 0} → Found K V → CacheShard K V → Type 0
-Room F.Nothing x = x.slab.used < length (slots x)
-Room (F.At at entry) x = Unit {0}
+abbrev pub Coded : {K V : Type 0} → Keying K → K → Layout K V → Option (Found K V) → Type 0
+Coded e k x None = Unit {0}
+Coded e k x (Some f) = hash_at x f.at ≡ e.code k
 
 -- a plain insert needs a slot where nothing was found, and there is none
-abbrev pub no_slot : {K V : Type 0} → InsertStrategy → Found K V → CacheShard K V → Bool
-no_slot I.Insert F.Nothing x = nat_le (length (slots x)) x.slab.used
-no_slot I.Insert (F.At at entry) x = false
-no_slot (I.Replace soft) f x = false
+abbrev pub no_slot : {K V : Type 0} → InsertStrategy → Option (Found K V) → Layout K V → Bool
+no_slot I.Insert None x = nat_le (length (slots x)) x.slab.used
+no_slot I.Insert (Some f) x = false
+no_slot (I.Replace soft) found x = false
 
 module _ {S K V : Type 0} (l : Life S K V) where
   -- the request state after a record went to the hook of its state
@@ -56,7 +48,7 @@ module _ {S K V : Type 0} (l : Life S K V) where
   hooked_by state k v q = by_state state (l.hot q k v) (l.cold q k v)
 
   -- In a call that began with the request state s₀, the shard x and the request state q are the model's state s.
-  pub record Stages (e : Keying K) (x : CacheShard K V) (s₀ q : S) (s : State K V) : Type 0 where
+  pub record Stages (e : Keying K) (x : Layout K V) (s₀ q : S) (s : State K V) : Type 0 where
     pub places : Places
     pub shows : Shows e x places s.rings s.placeholders
     pub told : q ≡ state_after l s₀ s.rings.events
@@ -66,57 +58,57 @@ module _ {S K V : Type 0} (l : Life S K V) where
     pub edit : s.edit ≡ closed
 
   -- The resident of the key of a record that is turned away is deleted, and goes to its hook.
-  abbrev pub Ousts : Found K V → CacheShard K V → CacheShard K V → S → S → Type 0
+  abbrev pub Ousts : Option (Found K V) → Layout K V → Layout K V → S → S → Type 0
   Ousts found x x' q q' =
       (e : Keying K) (s₀ : S) (s : State K V) (w : Stages e x s₀ q s) (f : calls.Found K V) → Agrees x w.places w.shows.offs w.shows.waits f found →
       Stages e x' s₀ q' (calls.ousted (as_spot f) s)
 
   -- Then the record goes to the cold hook, or is handed back.
-  abbrev pub TurnsAway : Strategy → K → V → Found K V → CacheShard K V → CacheShard K V → Answer K V → S → S → Type 0
+  abbrev pub TurnsAway : Strategy → K → V → Option (Found K V) → Layout K V → Layout K V → Answer K V → S → S → Type 0
   TurnsAway strategy k v found x x' answer q q' =
       (e : Keying K) (n : ℕ) (s₀ : S) (s : State K V) (w : Stages e x s₀ q s) (f : calls.Found K V) → Agrees x w.places w.shows.offs w.shows.waits f found →
       ((calls.turned_away strategy n k v (calls.ousted (as_spot f) s)).1 ≡ answer) × Stages e x' s₀ q' (calls.turned_away strategy n k v (calls.ousted (as_spot f) s)).0
 
 module _ {S K V : Type 0} (weigh : K → V → ℕ) (l : Life S K V) where
-  -- Admission: the request state after it, and whether the record may come in.
-  abbrev pub admitted : ℕ → K → V → S → S × Admission V
+  -- Admission: the request state after it, and the record as it may come in, with its weight, or as it is too heavy.
+  abbrev pub admitted : ℕ → K → V → S → S × Result (V × ℕ) V
   admitted target k v q =
       when (nat_lt target (weigh k v) && not (l.pins k v))
       (λ _.
       when (nat_lt target (weigh k (l.trim q k v).1))
-      (λ _. ((l.trim q k v).0, A.TooHeavy (l.trim q k v).1))
-      (λ _. ((l.trim q k v).0, A.Fits (l.trim q k v).1 (weigh k (l.trim q k v).1))))
-      (λ _. (q, A.Fits v (weigh k v)))
+      (λ _. ((l.trim q k v).0, Err (l.trim q k v).1))
+      (λ _. ((l.trim q k v).0, Ok ((l.trim q k v).1, weigh k (l.trim q k v).1))))
+      (λ _. (q, Ok (v, weigh k v)))
 
   -- The record takes the place of that of a resident.
-  abbrev pub Replaces : Strategy → ℕ → Resident K V → K → V → CacheShard K V → CacheShard K V → S → S → Type 0
+  abbrev pub Replaces : Strategy → ℕ → Resident K V → K → V → Layout K V → Layout K V → S → S → Type 0
   Replaces strategy at r k v x x' q q' =
       (e : Keying K) (n : ℕ) (s₀ : S) (s : State K V) (w : Stages l e x s₀ q s) (where' : model.Where) (b a : List (model.Resident K V)) (m : model.Resident K V) →
       E.Resident r ≡ plain m → Lies e x w.places s.rings s.placeholders w.shows at where' b a → e.code m.key ≡ e.code k →
       Stages l e x' s₀ q' (calls.shrunk (context_of weigh l e x s₀) 0 (calls.replaced strategy (context_of weigh l e x s₀) n k v where' b m a s))
 
   -- A ghost becomes a hot resident.
-  abbrev pub Revives : ℕ → K → V → CacheShard K V → CacheShard K V → S → S → Type 0
+  abbrev pub Revives : ℕ → K → V → Layout K V → Layout K V → S → S → Type 0
   Revives at k v x x' q q' =
       (e : Keying K) (n : ℕ) (s₀ : S) (s : State K V) (w : Stages l e x s₀ q s) (b a ks ds : List ℕ) (g : ℕ) →
       w.places.ghosts ≡ ks ++ at ∷ ds → mapped (hash_at x) ks ≡ b → mapped (hash_at x) ds ≡ a → hash_at x at ≡ e.code k →
       Stages l e x' s₀ q' (calls.shrunk (context_of weigh l e x s₀) 0 (calls.entered (calls.new_resident k v (weigh k v) true 0 n) (calls.with_rings (model.put_ghosts (b ++ a) s.rings) s)))
 
   -- A placeholder becomes a resident of its state, with one read.
-  abbrev pub Supplants : ℕ → Placeholder K → K → V → CacheShard K V → CacheShard K V → S → S → Type 0
+  abbrev pub Supplants : ℕ → Placeholder K → K → V → Layout K V → Layout K V → S → S → Type 0
   Supplants at q₀ k v x x' q q' =
       (e : Keying K) (n : ℕ) (s₀ : S) (s : State K V) (w : Stages l e x s₀ q s) (b a : List (model.Placeholder K)) (ks ds : List ℕ) (m : model.Placeholder K) →
       ◌≡◌ {A = Entry K V} (E.Placeholder q₀) (waiting m) → w.shows.waits ≡ ks ++ at ∷ ds → seen x ks ≡ mapped (λ q. Some (waiting q)) b → seen x ds ≡ mapped (λ q. Some (waiting q)) a → hash_at x at ≡ e.code k →
       Stages l e x' s₀ q' (calls.shrunk (context_of weigh l e x s₀) 0 (calls.entered (calls.new_resident k v (weigh k v) m.hot 1 n) (calls.with_placeholders (b ++ a) s)))
 
   -- A record whose key is not known enters, once there is room for it.
-  abbrev pub BringsIn : K → ℕ → V → CacheShard K V → CacheShard K V → S → S → Type 0
+  abbrev pub BringsIn : K → ℕ → V → Layout K V → Layout K V → S → S → Type 0
   BringsIn k hash v x x' q q' =
       (e : Keying K) (n : ℕ) (s₀ : S) (s : State K V) (w : Stages l e x s₀ q s) → hash ≡ e.code k →
       Stages l e x' s₀ q' (calls.entered (calls.new_resident k v (weigh k v) (calls.fits_hot (context_of weigh l e x s₀) (weigh k v) s) 0 n) (calls.shrunk (context_of weigh l e x s₀) (weigh k v) s))
 
   -- A record that may come in meets what its key finds.
-  abbrev pub LetsIn : Strategy → K → ℕ → V → Found K V → CacheShard K V → CacheShard K V → Answer K V → S → S → Type 0
+  abbrev pub LetsIn : Strategy → K → ℕ → V → Option (Found K V) → Layout K V → Layout K V → Answer K V → S → S → Type 0
   LetsIn strategy k hash v found x x' answer q q' =
       (e : Keying K) (n : ℕ) (s₀ : S) (s : State K V) (w : Stages l e x s₀ q s) (f : calls.Found K V) → Agrees x w.places w.shows.offs w.shows.waits f found → Coded e k x found → hash ≡ e.code k →
       ((calls.let_in strategy (context_of weigh l e x s₀) n k v s f).1 ≡ answer) × Stages l e x' s₀ q' (calls.let_in strategy (context_of weigh l e x s₀) n k v s f).0

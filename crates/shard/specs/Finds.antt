@@ -1,14 +1,13 @@
 -- What a search of the shard finds, against the model's.
-use Rattle.std.specs.Prelude.{◌≡◌, ℕ, ◌≤◌, List, ◌∷◌, ◌++◌, Some}
+use Rattle.std.specs.Prelude.{◌≡◌, ℕ, ◌≤◌, List, ◌∷◌, ◌++◌, Some, None, Option}
 use Rattle.interface.specs.Meaning.{Keying}
 use Rattle.model.specs.Lists.{mapped}
 use Rattle.model.specs.Entries as model
 use Rattle.model.specs.Calls as calls
 use Rattle.model.specs.Standing.{matches}
 use Rattle.shard.specs.declared.entry.Entry.TheVariants.{Ghost}
-use Rattle.shard.specs.declared.cache_shard.CacheShard.{CacheShard}
+use Rattle.shard.specs.declared.layout.Layout.{Layout}
 use Rattle.shard.specs.declared.found.Found.{Found}
-use Rattle.shard.specs.declared.found.Found.TheVariants as F
 use Rattle.shard.specs.Layout.{Places, entry_at, hash_at}
 use Rattle.shard.specs.Shows.{plain, waiting, seen, Shown, Shows}
 
@@ -20,25 +19,25 @@ places_of model.off_rings hot cold offs = offs
 
 module _ {K V : Type 0} where
   -- What is found at a place is what the model finds, and it stands at the same point of its list.
-  abbrev pub Agrees : CacheShard K V → (p : Places) → (offs waits : List ℕ) → calls.Found K V → Found K V → Type 0
-  Agrees x p offs waits calls.not_found F.Nothing = Unit {0}
-  Agrees x p offs waits calls.not_found (F.At at entry) = ⊥
-  Agrees x p offs waits (calls.resident_at w b r a) F.Nothing = ⊥
-  Agrees x p offs waits (calls.resident_at w b r a) (F.At at entry) =
-      (entry ≡ plain r) × ((c : List ℕ) × (d : List ℕ) × (places_of w p.hot p.cold offs ≡ c ++ at ∷ d) × Shown x c b × Shown x d a)
-  Agrees x p offs waits (calls.placeholder_at b q a) F.Nothing = ⊥
-  Agrees x p offs waits (calls.placeholder_at b q a) (F.At at entry) =
-      (entry ≡ waiting q) × ((c : List ℕ) × (d : List ℕ) × (waits ≡ c ++ at ∷ d) × (seen x c ≡ mapped (λ q. Some (waiting q)) b) × (seen x d ≡ mapped (λ q. Some (waiting q)) a))
-  Agrees x p offs waits (calls.ghost_at b g a) F.Nothing = ⊥
-  Agrees x p offs waits (calls.ghost_at b g a) (F.At at entry) =
-      (entry ≡ Ghost) × ((c : List ℕ) × (d : List ℕ) × (p.ghosts ≡ c ++ at ∷ d) × (mapped (hash_at x) c ≡ b) × (mapped (hash_at x) d ≡ a))
+  abbrev pub Agrees : Layout K V → (p : Places) → (offs waits : List ℕ) → calls.Found K V → Option (Found K V) → Type 0
+  Agrees x p offs waits calls.not_found None = Unit {0}
+  Agrees x p offs waits calls.not_found (Some f) = ⊥
+  Agrees x p offs waits (calls.resident_at w b r a) None = ⊥
+  Agrees x p offs waits (calls.resident_at w b r a) (Some f) =
+      (f.entry ≡ plain r) × ((c : List ℕ) × (d : List ℕ) × (places_of w p.hot p.cold offs ≡ c ++ f.at ∷ d) × Shown x c b × Shown x d a)
+  Agrees x p offs waits (calls.placeholder_at b q a) None = ⊥
+  Agrees x p offs waits (calls.placeholder_at b q a) (Some f) =
+      (f.entry ≡ waiting q) × ((c : List ℕ) × (d : List ℕ) × (waits ≡ c ++ f.at ∷ d) × (seen x c ≡ mapped (λ q. Some (waiting q)) b) × (seen x d ≡ mapped (λ q. Some (waiting q)) a))
+  Agrees x p offs waits (calls.ghost_at b g a) None = ⊥
+  Agrees x p offs waits (calls.ghost_at b g a) (Some f) =
+      (f.entry ≡ Ghost) × ((c : List ℕ) × (d : List ℕ) × (p.ghosts ≡ c ++ f.at ∷ d) × (mapped (hash_at x) c ≡ b) × (mapped (hash_at x) d ≡ a))
 
   -- the entry found is the one at its place
-  abbrev pub AtItsPlace : CacheShard K V → Found K V → Type 0
-  AtItsPlace x F.Nothing = Unit {0}
-  AtItsPlace x (F.At at entry) = entry_at x at ≡ Some entry
+  abbrev pub AtItsPlace : Layout K V → Option (Found K V) → Type 0
+  AtItsPlace x None = Unit {0}
+  AtItsPlace x (Some f) = entry_at x f.at ≡ Some f.entry
 
   -- What a search for a key answers, against the model's: for every state in which no two keys are equal.
-  abbrev pub Finds : Keying K → K → CacheShard K V → Found K V → Type 0
+  abbrev pub Finds : Keying K → K → Layout K V → Option (Found K V) → Type 0
   Finds e key x r =
       (p : Places) (s : calls.State K V) (shows : Shows e x p s.rings s.placeholders) → ((k : K) → matches e k s ≤ 1) → Agrees x p shows.offs shows.waits (calls.search_for e key s) r

@@ -20,11 +20,11 @@ use Rattle.shard.specs.declared.lap.Met.{Met}
 use Rattle.shard.specs.declared.lap.Met.TheVariants as M
 use Rattle.shard.specs.declared.lap.Lap.{Lap}
 use Rattle.shard.specs.declared.lap.Lap.TheVariants as L
-use Rattle.shard.specs.declared.cache_shard.CacheShard.{CacheShard}
+use Rattle.shard.specs.declared.layout.Layout.{Layout}
 use Rattle.shard.specs.Layout.{Places}
 use Rattle.shard.specs.Shows.{plain, Shows}
 use Rattle.shard.specs.Carries.{Carries}
-use Rattle.shard.specs.Steps.{context_of}
+use Rattle.shard.specs.Steps.{context_of, FollowsRings}
 
 -- a place, if there is one, as a list
 abbrev pub listed : Option ℕ → List ℕ
@@ -141,23 +141,23 @@ module _ {K V : Type 0} where
       (a : List ℕ) × (b : List ℕ) × (xs ≡ a ++ at ∷ b) × (every (λ o. not (halts pins o)) (along s a) ≡ true) × (halts pins (item_at s at) ≡ true)
 
   -- What was taken out of the hot ring is in hand, and the rings are those that the model leaves.
-  abbrev pub Taken : Keying K → CacheShard K V → model.Rings K V → List (model.Placeholder K) → Pick (model.Resident K V) → Option ℕ → Type 0
+  abbrev pub Taken : Keying K → Layout K V → model.Rings K V → List (model.Placeholder K) → Pick (model.Resident K V) → Option ℕ → Type 0
   Taken e x t ps nothing None = (p : Places) × Shows e x p (model.put model.hot_ring (mapped model.less_read t.hot) t) ps
   Taken e x t ps nothing (Some at) = ⊥
   Taken e x t ps (here b r a) None = ⊥
   Taken e x t ps (here b r a) (Some at) = (p : Places) × Carries e x p at (plain r) (model.put model.hot_ring (a ++ b) t) ps
 
-  abbrev pub TakesHot : (K → V → Bool) → CacheShard K V → CacheShard K V → Option ℕ → Type 0
+  abbrev pub TakesHot : (K → V → Bool) → Layout K V → Layout K V → Option ℕ → Type 0
   TakesHot pins x x' answer =
       (e : Keying K) (u : Context K V) (p : Places) (t : model.Rings K V) (ps : List (model.Placeholder K)) → u.pins ≡ pins → Shows e x p t ps → Taken e x' t ps (hot_stop u t.hot) answer
 
   -- A resident that is in hand joins the hot ring, with a read less.
-  abbrev pub Promotes : ℕ → CacheShard K V → CacheShard K V → Type 0
+  abbrev pub Promotes : ℕ → Layout K V → Layout K V → Type 0
   Promotes at x x' =
       (e : Keying K) (p : Places) (r : model.Resident K V) (t : model.Rings K V) (ps : List (model.Placeholder K)) → Carries e x p at (plain r) t ps → (p' : Places) × Shows e x' p' (model.put model.hot_ring (t.hot ++ model.promoted r ∷ []) t) ps
 
   -- The oldest ghost, the head, is gone if there were more than the bound.
-  abbrev pub BoundsGhosts : CacheShard K V → CacheShard K V → Type 0
+  abbrev pub BoundsGhosts : Layout K V → Layout K V → Type 0
   BoundsGhosts x x' =
       (e : Keying K) (p : Places) (t : model.Rings K V) (ps : List (model.Placeholder K)) → Shows e x p t ps → (p' : Places) × Shows e x' p' (model.put_ghosts (cond (nat_lt (limits x.settings).bound (length t.ghosts)) (tail t.ghosts) t.ghosts) t) ps
 
@@ -167,13 +167,19 @@ module _ {K V : Type 0} where
   leaves_cold u r t = when (nat_lt 0 r.reads) (λ _. cool u (model.put model.hot_ring (t.hot ++ (model.promoted r ∷ [])) t)) (λ _. evict u r t)
 
   -- the hot and the cold ring are as long as they were
-  pub record SameLengths (x x' : CacheShard K V) : Type 0 where
+  pub record SameLengths (x x' : Layout K V) : Type 0 where
     pub hot : x'.hot.len ≡ x.hot.len
     pub cold : x'.cold.len ≡ x.cold.len
 
 module _ {S K V : Type 0} (weigh : K → V → ℕ) (l : Life S K V) where
   -- A resident that is in hand leaves as f has it leave, and the request state goes from q to q'.
-  abbrev pub LetsGo : (Context K V → model.Resident K V → model.Rings K V → model.Rings K V) → ℕ → CacheShard K V → CacheShard K V → S → S → Type 0
+  abbrev pub LetsGo : (Context K V → model.Resident K V → model.Rings K V → model.Rings K V) → ℕ → Layout K V → Layout K V → S → S → Type 0
   LetsGo f at x x' q q' =
       (e : Keying K) (s₀ : S) (p : Places) (r : model.Resident K V) (t : model.Rings K V) (ps : List (model.Placeholder K)) → q ≡ state_after l s₀ t.events → Carries e x p at (plain r) t ps →
       (q' ≡ state_after l s₀ (f (context_of weigh l e x s₀) r t).events) × ((p' : Places) × Shows e x' p' (f (context_of weigh l e x s₀) r t) ps)
+
+  -- What the cold hand does with the resident in hand at which it stopped. Where it is promoted, the request state stays, and
+  -- all is done once the hot hand has made room for it.
+  abbrev pub LeavesCold : ℕ → Layout K V → Layout K V → Bool → S → S → Type 0
+  LeavesCold at x x' true q q' = (q' ≡ q) × ((x'' : Layout K V) (q'' : S) → FollowsRings weigh l cool x' x'' q q'' → LetsGo leaves_cold at x x'' q q'')
+  LeavesCold at x x' false q q' = LetsGo leaves_cold at x x' q q'

@@ -12,7 +12,7 @@ use Rattle.shard.specs.declared.entry.Entry.TheVariants.{Resident, Placeholder, 
 use Rattle.shard.specs.declared.ring.Ring.{Ring}
 use Rattle.shard.specs.declared.ring.RingName.{RingName}
 use Rattle.shard.specs.declared.ring.RingName.TheVariants.{Hot, Cold, Ghosts}
-use Rattle.shard.specs.declared.cache_shard.CacheShard.{CacheShard}
+use Rattle.shard.specs.declared.layout.Layout.{Layout}
 use Rattle.shard.specs.Tallies.{by_state, recounted, hot_share, cold_share}
 
 -- The places: each ring from its head on; residents of weight 0 and placeholders, which are loose; what a call has in
@@ -72,63 +72,63 @@ module _ {K V : Type 0} where
   kind_of (Some (Placeholder p)) = off_rings
   kind_of (Some Ghost) = in_ring Ghosts
 
-  abbrev pub slots : CacheShard K V → List (Slot (Entry K V))
+  abbrev pub slots : Layout K V → List (Slot (Entry K V))
   slots x = slots_of x.slab
 
   -- the entry at a place, and the hash that its slot keeps
-  abbrev pub entry_at : CacheShard K V → ℕ → Option (Entry K V)
+  abbrev pub entry_at : Layout K V → ℕ → Option (Entry K V)
   entry_at x k = item_at (slots x) k
 
-  abbrev pub hash_at : CacheShard K V → ℕ → ℕ
+  abbrev pub hash_at : Layout K V → ℕ → ℕ
   hash_at x k = look (hashes (slots x)) k
 
-  abbrev pub ring : RingName → CacheShard K V → Ring
+  abbrev pub ring : RingName → Layout K V → Ring
   ring Hot x = x.hot
   ring Cold x = x.cold
   ring Ghosts x = x.ghosts
 
   -- the shard with another ring of that name
-  abbrev pub with_ring : RingName → Ring → CacheShard K V → CacheShard K V
+  abbrev pub with_ring : RingName → Ring → Layout K V → Layout K V
   with_ring Hot r x = record { slab = x.slab; settings = x.settings; hot = r; cold = x.cold; ghosts = x.ghosts; tally = x.tally; issued = x.issued }
   with_ring Cold r x = record { slab = x.slab; settings = x.settings; hot = x.hot; cold = r; ghosts = x.ghosts; tally = x.tally; issued = x.issued }
   with_ring Ghosts r x = record { slab = x.slab; settings = x.settings; hot = x.hot; cold = x.cold; ghosts = r; tally = x.tally; issued = x.issued }
 
   -- The shard x has its entries at the places p.
-  pub record Laid (x : CacheShard K V) (p : Places) : Type 0 where
+  pub record Laid (x : Layout K V) (p : Places) : Type 0 where
     pub held : Held x.slab (p.hot ∷ p.cold ∷ p.ghosts ∷ []) (p.hand ++ p.loose) p.vacant (used p)
     pub hot : Begins x.hot p.hot
     pub cold : Begins x.cold p.cold
     pub ghosts : Begins x.ghosts p.ghosts
 
   -- Each entry lies where it belongs; what is in hand is on its way.
-  pub record Ranked (x : CacheShard K V) (p : Places) : Type 0 where
+  pub record Ranked (x : Layout K V) (p : Places) : Type 0 where
     pub hot : (k : ℕ) → 1 ≤ count k p.hot → kind_of (entry_at x k) ≡ in_ring Hot
     pub cold : (k : ℕ) → 1 ≤ count k p.cold → kind_of (entry_at x k) ≡ in_ring Cold
     pub ghosts : (k : ℕ) → 1 ≤ count k p.ghosts → kind_of (entry_at x k) ≡ in_ring Ghosts
     pub loose : (k : ℕ) → 1 ≤ count k p.loose → kind_of (entry_at x k) ≡ off_rings
 
   -- The counts and weights are those of the recount, and each weight is one of 32 bits.
-  pub record Counted (x : CacheShard K V) : Type 0 where
+  pub record Counted (x : Layout K V) : Type 0 where
     pub tally : x.tally ≡ recounted (items (slots x))
     pub small : (k : ℕ) → (hot_share (entry_at x k) < 2 ^ 32) × (cold_share (entry_at x k) < 2 ^ 32)
 
-  pub record Stands (x : CacheShard K V) (p : Places) : Type 0 where
+  pub record Stands (x : Layout K V) (p : Places) : Type 0 where
     pub laid : Laid x p
     pub ranked : Ranked x p
     pub counted : Counted x
 
   -- The places as functions of the shard: the rings and the free list by walking; the loose ones are those used that are in
   -- no ring and not in hand.
-  abbrev pub ring_places : RingName → CacheShard K V → List ℕ
+  abbrev pub ring_places : RingName → Layout K V → List ℕ
   ring_places n x = ring_from (slots x) (ring n x).head (ring n x).len
 
-  abbrev pub vacant_places : CacheShard K V → List ℕ
+  abbrev pub vacant_places : Layout K V → List ℕ
   vacant_places x = free_of (slots x) x.slab.free
 
-  abbrev pub elsewhere : CacheShard K V → List ℕ → List ℕ
+  abbrev pub elsewhere : Layout K V → List ℕ → List ℕ
   elsewhere x h = ring_places Hot x ++ (ring_places Cold x ++ (ring_places Ghosts x ++ (h ++ vacant_places x)))
 
-  abbrev pub places : CacheShard K V → List ℕ → Places
+  abbrev pub places : Layout K V → List ℕ → Places
   places x h =
       record {
         hot = ring_places Hot x;
@@ -140,11 +140,11 @@ module _ {K V : Type 0} where
       }
 
   -- A shard with the places h in hand is sound.
-  abbrev pub Sound : CacheShard K V → List ℕ → Type 0
+  abbrev pub Sound : Layout K V → List ℕ → Type 0
   Sound x h = Stands x (places x h)
 
   -- Nothing but the links has changed.
-  pub record SameEntries (x x' : CacheShard K V) : Type 0 where
+  pub record SameEntries (x x' : Layout K V) : Type 0 where
     pub items : items (slots x') ≡ items (slots x)
     pub hashes : hashes (slots x') ≡ hashes (slots x)
     pub tally : x'.tally ≡ x.tally

@@ -11,7 +11,7 @@ use Rattle.shard.specs.declared.entry.Entry.TheVariants.{Resident, Placeholder, 
 use Rattle.shard.specs.declared.found.Sighting.{Sighting}
 use Rattle.shard.specs.declared.found.Sighting.TheVariants as S
 use Rattle.shard.specs.declared.ring.RingName.TheVariants.{Ghosts}
-use Rattle.shard.specs.declared.cache_shard.CacheShard.{CacheShard}
+use Rattle.shard.specs.declared.layout.Layout.{Layout}
 use Rattle.shard.specs.Layout.{slots, ring_places}
 
 -- no place among ks has the property
@@ -23,11 +23,9 @@ abbrev pub Nowhere : (ℕ → Type 0) → Type 0
 Nowhere P = (j : ℕ) → P j → ⊥
 
 -- one more ghost is seen, at a place
-abbrev pub one_more : ℕ → Sighting → Sighting
-one_more at S.Nothing = S.Ghost at
-one_more at (S.Keyed k) = S.Ghosts
-one_more at (S.Ghost k) = S.Ghosts
-one_more at S.Ghosts = S.Ghosts
+abbrev pub one_more : ℕ → Option Sighting → Sighting
+one_more at None = S.Ghost at
+one_more at (Some seen) = S.Ghosts
 
 -- the slab holds some lists of places
 pub record Kept {T : Type 0} (m : LinkedSlab T) : Type 0 where
@@ -85,15 +83,15 @@ module _ {K V : Type 0} (s : List (Slot (Entry K V))) (hash : ℕ) where
       pub same : keyed_by e key (item_at s j) ≡ true
 
     -- what a walk along ks meets
-    abbrev pub Sights : List ℕ → Sighting → Type 0
-    Sights ks (S.Keyed at) = (1 ≤ count at ks) × KeyedAt at
-    Sights ks (S.Ghost at) = NoneOf KeyedAt ks × OneGhost ks at
-    Sights ks S.Ghosts = NoneOf KeyedAt ks × TwoGhosts ks
-    Sights ks S.Nothing = NoneOf KeyedAt ks × NoneOf GhostAt ks
+    abbrev pub Sights : List ℕ → Option Sighting → Type 0
+    Sights ks (Some (S.Keyed at)) = (1 ≤ count at ks) × KeyedAt at
+    Sights ks (Some (S.Ghost at)) = NoneOf KeyedAt ks × OneGhost ks at
+    Sights ks (Some S.Ghosts) = NoneOf KeyedAt ks × TwoGhosts ks
+    Sights ks None = NoneOf KeyedAt ks × NoneOf GhostAt ks
 
 -- The place that a key leads to: that of its resident or placeholder, else that of the first ghost of its hash from the
 -- head of the ghosts' ring on.
-module _ {K V : Type 0} (e : Keying K) (key : K) (hash : ℕ) (x : CacheShard K V) where
+module _ {K V : Type 0} (e : Keying K) (key : K) (hash : ℕ) (x : Layout K V) where
   abbrev pub LeadsTo : Option ℕ → Type 0
   LeadsTo (Some at) = KeyedAt (slots x) hash e key at ⊎ (Nowhere (KeyedAt (slots x) hash e key) × (first_with (slots x) hash (ring_places Ghosts x) ≡ Some at))
   LeadsTo None = Nowhere (KeyedAt (slots x) hash e key) × (first_with (slots x) hash (ring_places Ghosts x) ≡ None)

@@ -9,7 +9,7 @@ use Rattle.shard.specs.declared.entry.Entry.{Entry}
 use Rattle.shard.specs.declared.entry.Entry.TheVariants as E
 use Rattle.shard.specs.declared.entry.ResidentState.{ResidentState}
 use Rattle.shard.specs.declared.entry.ResidentState.TheVariants as S
-use Rattle.shard.specs.declared.cache_shard.CacheShard.{CacheShard}
+use Rattle.shard.specs.declared.layout.Layout.{Layout}
 use Rattle.shard.specs.Layout.{Places, entry_at, hash_at, Stands}
 
 abbrev pub part : Bool → ResidentState
@@ -26,11 +26,11 @@ module _ {K V : Type 0} where
   waiting p = E.Placeholder (record { key = p.key; state = part p.hot; ticket = p.ticket })
 
   -- the entries at places, one after the other
-  abbrev pub seen : CacheShard K V → List ℕ → List (Option (Entry K V))
+  abbrev pub seen : Layout K V → List ℕ → List (Option (Entry K V))
   seen x ks = mapped (entry_at x) ks
 
   -- the residents rs lie at the places ks, in their order
-  abbrev pub Shown : CacheShard K V → List ℕ → List (model.Resident K V) → Type 0
+  abbrev pub Shown : Layout K V → List ℕ → List (model.Resident K V) → Type 0
   Shown x ks rs = seen x ks ≡ mapped (λ r. Some (plain r)) rs
 
   -- a resident or placeholder is kept under its key's hash
@@ -40,12 +40,12 @@ module _ {K V : Type 0} where
   Hashed e (Some (E.Placeholder p)) h = h ≡ e.code p.key
   Hashed e (Some E.Ghost) h = Unit {0}
 
-  abbrev pub Keyed : Keying K → CacheShard K V → Type 0
+  abbrev pub Keyed : Keying K → Layout K V → Type 0
   Keyed e x = (k : ℕ) → Hashed e (entry_at x k) (hash_at x k)
 
   -- With nothing in hand, the rings at the places p are those of t, the loose places are its residents off the rings and
   -- the placeholders ps.
-  pub record Shows (e : Keying K) (x : CacheShard K V) (p : Places) (t : model.Rings K V) (ps : List (model.Placeholder K)) : Type 0 where
+  pub record Shows (e : Keying K) (x : Layout K V) (p : Places) (t : model.Rings K V) (ps : List (model.Placeholder K)) : Type 0 where
     pub stands : Stands x p
     pub settled : p.hand ≡ []
     pub keyed : Keyed e x

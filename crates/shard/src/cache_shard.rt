@@ -1,18 +1,12 @@
-use crate::entry::Entry;
-use crate::ring::Ring;
-use crate::tally::Tally;
-use ring_slab::linked_slab::LinkedSlab;
-use settings::Settings;
+ghost use Rattle.std.specs.Prelude.{[]};
+ghost use Rattle.shard.specs.Layout.{Sound};
 
-// The shard: its slots, the rings in them, and what is counted of them. The cache above it keeps it sound.
+use crate::layout::Layout;
+
+// One shard. Every shard is sound: each used slot is in one place only, links agree both ways, and counts and weights are
+// those of a recount. What a call leaves as it was (`SameTerms`, `NoMoreUsed`) stays a clause: it relates two values.
 #[derive(Drop)]
 pub struct CacheShard<'a, K: Copy, V: Copy> {
-    pub slab: LinkedSlab<'a, Entry<K, V>>,
-    pub settings: Settings,
-    pub hot: Ring,
-    pub cold: Ring,
-    pub ghosts: Ring,
-    pub tally: Tally,
-    // how many tickets have been given out
-    pub issued: u64,
+    pub layout: Layout<'a, K, V>,
+    pub ghost sound: { ∥ Sound layout [] ∥₁ },
 }

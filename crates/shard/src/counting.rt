@@ -1,8 +1,8 @@
 // Counting entries: one more, one less, and all of them again.
-ghost use Rattle.std.specs.Prelude.{◌≡◌, ℕ, ◌+◌, ◌^◌, ◌<◌, ◌≤◌, [], length, Some, None};
+ghost use Rattle.std.specs.Prelude.{◌≡◌, ◌+◌, ◌^◌, ◌<◌, ◌≤◌, Some, None};
 ghost use Rattle.ring_slab.specs.Slots.{items};
 ghost use Rattle.shard.specs.Tallies.{hot_one, cold_one, ghost_one, hot_share, cold_share, recounted, counted_in};
-ghost use Rattle.shard.specs.Layout.{slots, Sound};
+ghost use Rattle.shard.specs.Layout.{slots};
 
 use crate::cache_shard::CacheShard;
 use crate::entry::{Entry, ResidentState};
@@ -105,12 +105,11 @@ pub fn uncounted<K: Copy, V: Copy>(tally: Tally, item: &Option<Entry<K, V>>) -> 
 impl<'a, K: Copy, V: Copy> CacheShard<'a, K, V> {
     // Goes over all slots one by one.
     pub fn recount(&self) -> Tally
-        requires { Sound self.now [] }
-        ensures { result ≡ recounted (items (slots self.now)) }
+        ensures { result ≡ recounted (items (slots self.now.layout)) }
     {
         let mut tally = Tally::NONE;
-        'slots: for at in 0..self.slab.capacity() {
-            tally = counted(tally, self.slab.get(at as u32));
+        'slots: for slot in self.layout.slab.slots.iter() {
+            tally = counted(tally, &slot.item);
         }
         tally
     }

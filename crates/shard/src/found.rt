@@ -2,9 +2,9 @@ use crate::entry::Entry;
 
 // What a key finds, and where.
 #[derive(Clone, Copy)]
-pub enum Found<K, V> {
-    Nothing,
-    At(u32, Entry<K, V>),
+pub struct Found<K, V> {
+    pub at: u32,
+    pub entry: Entry<K, V>,
 }
 
 // What a walk along the chain of a hash meets.
@@ -16,6 +16,4 @@ pub enum Sighting {
     Ghost(u32),
     // several ghosts of the hash
     Ghosts,
-    // none of these
-    Nothing,
 }

@@ -1,4 +1,5 @@
-// The two clock hands.
+// The two clock hands. Weigher, lifecycle and request state go from call to call as three parameters: a struct of them would
+// lend the state on by a `&mut` inside, and each function would owe a clause that it leaves the other two as they are.
 ghost use Rattle.std.specs.Prelude.{◌≡◌, ℕ, ◌+◌, ◌<◌, ◌≤◌, true, false, not, [], ◌∷◌, length, IfSome, Some, slice_set};
 ghost use Rattle.model.specs.Hands.{evict as evicted, hot_hand, cold_hand, cool as cooled, shrink as shrunk};
 ghost use Rattle.ring_slab.specs.Places.{look, count};
@@ -10,11 +11,12 @@ ghost use Rattle.shard.specs.declared.entry.Entry.TheVariants as E;
 ghost use Rattle.shard.specs.declared.ring.RingName.TheVariants.{Hot, Cold};
 ghost use Rattle.shard.specs.Layout.{in_ring, kind_of, slots as slots_in, entry_at, ring_places, Sound};
 ghost use Rattle.shard.specs.Steps.{FollowsHand, FollowsRings, NoMoreUsed, Falls};
-ghost use Rattle.shard.specs.Hands.{listed, worn, resident_of, Meets, halts, Lapped, SameShape, OnlyReads, WalksHot, Halted, TakesHot, Promotes, BoundsGhosts, leaves_cold, SameLengths, LetsGo};
+ghost use Rattle.shard.specs.Hands.{listed, worn, resident_of, Meets, halts, Lapped, SameShape, OnlyReads, WalksHot, Halted, TakesHot, Promotes, BoundsGhosts, LeavesCold, SameLengths, LetsGo};
 
 use crate::cache_shard::CacheShard;
 use crate::entry::{Entry, Resident, ResidentState};
 use crate::lap::{Lap, Met};
+use crate::layout::Layout;
 use crate::ring::RingName;
 use interface::{Lifecycle, Weighter};
 use ring_slab::linked_slab::LinkedSlab;
@@ -23,7 +25,7 @@ use ring_slab::slots::Slot;
 // Takes a read from a resident, if it has one.
 fn touch_entry<K: Copy, V: Copy, L: Lifecycle<K, V>>(entry: &mut Entry<K, V>, life: &L) -> Met
     ensures entry { Some entry.new ≡ worn (Some entry.old) }
-    ensures met { Meets (L.Lifecycle.life life.now).pins (Some entry.old) result }
+    ensures met { Meets (L.life life.now).pins (Some entry.old) result }
 {
     match entry {
         Entry::Resident(r) => {
@@ -51,7 +53,7 @@ fn touch_slot<K: Copy, V: Copy, L: Lifecycle<K, V>>(
     requires { at < length s.old }
     ensures links { SameLinks s.old s.new }
     ensures items { items s.new ≡ slice_set (items s.old) at (worn (item_at s.old at)) }
-    ensures met { Meets (L.Lifecycle.life life.now).pins (item_at s.old at) result }
+    ensures met { Meets (L.life life.now).pins (item_at s.old at) result }
 {
     match &mut s[at as usize].item {
         Some(entry) => touch_entry(entry, life),
@@ -67,12 +69,13 @@ fn touch<K: Copy, V: Copy, L: Lifecycle<K, V>>(
     requires { at < length (slots_of slab.old) }
     ensures shape { SameShape slab.old slab.new }
     ensures items { items (slots_of slab.new) ≡ slice_set (items (slots_of slab.old)) at (worn (item_at (slots_of slab.old) at)) }
-    ensures met { Meets (L.Lifecycle.life life.now).pins (item_at (slots_of slab.old) at) result }
+    ensures met { Meets (L.life life.now).pins (item_at (slots_of slab.old) at) result }
 {
     touch_slot(slab.slots, at, life)
 }
 
-// One lap of the hot hand over the ring of `len` places from `head` on, or less where it stops.
+// One lap of the hot hand over the ring of `len` places from `head` on, or less where it stops. The ring is not empty, so head
+// and length come apart and not as a `Ring`.
 fn hot_lap<K: Copy, V: Copy, L: Lifecycle<K, V>>(
     slab: &mut LinkedSlab<'_, Entry<K, V>>,
     head: u32,
@@ -81,10 +84,11 @@ fn hot_lap<K: Copy, V: Copy, L: Lifecycle<K, V>>(
 ) -> Lap
     requires { IsRing (slots_of slab.old) (walk (look (nexts (slots_of slab.old))) head len) }
     ensures shape { SameShape slab.old slab.new }
-    ensures lapped { Lapped (L.Lifecycle.life life.now).pins (walk (look (nexts (slots_of slab.old))) head len) (slots_of slab.old) (slots_of slab.new) result }
+    ensures lapped { Lapped (L.life life.now).pins (walk (look (nexts (slots_of slab.old))) head len) (slots_of slab.old) (slots_of slab.new) result }
 {
     let mut at = head;
     let mut all = true;
+    // the hand changes the entries that it passes, so no iterator may borrow the slab meanwhile
     'lap: for _i in 0..len {
         match touch(slab, at, life) {
             Met::Stop => return Lap::Stop(at),
@@ -108,7 +112,7 @@ fn hot_walk<K: Copy, V: Copy, L: Lifecycle<K, V>>(
     ensures reads { OnlyReads (slots_of slab.old) (slots_of slab.new) }
     ensures off { (k : ℕ) → count k (walk (look (nexts (slots_of slab.old))) head len) ≡ 0 → item_at (slots_of slab.new) k ≡ item_at (slots_of slab.old) k }
     ensures place { IfSome result (λ at. 1 ≤ count at (walk (look (nexts (slots_of slab.old))) head len)) }
-    ensures model { WalksHot (L.Lifecycle.life life.now).pins (walk (look (nexts (slots_of slab.old))) head len) (slots_of slab.old) (slots_of slab.new) result }
+    ensures model { WalksHot (L.life life.now).pins (walk (look (nexts (slots_of slab.old))) head len) (slots_of slab.old) (slots_of slab.new) result }
 {
     'laps: loop {
         match hot_lap(slab, head, len, life) {
@@ -126,32 +130,12 @@ fn cold_passes<K: Copy, V: Copy, L: Lifecycle<K, V>>(
     life: &L,
 ) -> bool
     requires { at < length (slots_of slab.now) }
-    ensures { result ≡ not (halts (L.Lifecycle.life life.now).pins (item_at (slots_of slab.now) at)) }
+    ensures { result ≡ not (halts (L.life life.now).pins (item_at (slots_of slab.now) at)) }
 {
     match slab.get(at) {
         Some(Entry::Resident(r)) => r.reads == 0 && life.is_pinned(&r.key, &r.value),
         _ => false,
     }
-}
-
-// The walk of the cold hand: the first place that it does not go past.
-fn cold_walk<K: Copy, V: Copy, L: Lifecycle<K, V>>(
-    slab: &LinkedSlab<'_, Entry<K, V>>,
-    head: u32,
-    len: u32,
-    life: &L,
-) -> Option<u32>
-    requires { IsRing (slots_of slab.now) (walk (look (nexts (slots_of slab.now))) head len) }
-    ensures { Halted (L.Lifecycle.life life.now).pins (walk (look (nexts (slots_of slab.now))) head len) (slots_of slab.now) result }
-{
-    let mut at = head;
-    'lap: for _i in 0..len {
-        if !cold_passes(slab, at, life) {
-            return Some(at);
-        }
-        at = slab.next_of(at);
-    }
-    None
 }
 
 // The resident at `at`, copied.
@@ -168,7 +152,7 @@ fn resident_at<K: Copy, V: Copy>(
     }
 }
 
-impl<'a, K: Copy, V: Copy> CacheShard<'a, K, V> {
+impl<'a, K: Copy, V: Copy> Layout<'a, K, V> {
     // Takes out of the hot ring the resident at which the hot hand stops.
     fn take_hot<L: Lifecycle<K, V>>(&mut self, life: &L) -> Option<u32>
         requires { Sound self.old [] }
@@ -177,7 +161,7 @@ impl<'a, K: Copy, V: Copy> CacheShard<'a, K, V> {
         ensures used { NoMoreUsed self.old self.new }
         ensures hot { self.new.hot.len + length (listed result) ≡ self.old.hot.len }
         ensures cold { self.new.cold.len ≡ self.old.cold.len }
-        ensures model { TakesHot (L.Lifecycle.life life.now).pins self.old self.new result }
+        ensures model { TakesHot (L.life life.now).pins self.old self.new result }
     {
         match self.hot.head {
             None => None,
@@ -204,7 +188,7 @@ impl<'a, K: Copy, V: Copy> CacheShard<'a, K, V> {
         ensures sound { Sound self.new [] }
         ensures used { NoMoreUsed self.old self.new }
         ensures lengths { SameLengths self.old self.new }
-        ensures model { LetsGo (W.Weighter.weight w.now) (L.Lifecycle.life life.now) evicted at self.old self.new state.old state.new }
+        ensures model { LetsGo (W.weight w.now) (L.life life.now) evicted at self.old self.new state.old state.new }
     {
         if let Some(r) = resident_at(&self.slab, at) {
             let value = life.before_evict(state, &r.key, r.value);
@@ -214,29 +198,6 @@ impl<'a, K: Copy, V: Copy> CacheShard<'a, K, V> {
             } else {
                 self.release(at);
                 life.on_evict_hot(state, r.key, value);
-            }
-        }
-    }
-
-    // The hot hand: lets one resident go, or says no where the ring is empty or wholly pinned.
-    pub fn advance_hot<W: Weighter<K, V>, L: Lifecycle<K, V>>(
-        &mut self,
-        w: &W,
-        life: &L,
-        state: &mut L::State,
-    ) -> bool
-        requires { Sound self.old [] }
-        ensures sound { Sound self.new [] }
-        ensures used { NoMoreUsed self.old self.new }
-        ensures falls { Falls result self.old self.new }
-        ensures cold { self.new.cold.len ≡ self.old.cold.len }
-        ensures model { FollowsHand (W.Weighter.weight w.now) (L.Lifecycle.life life.now) hot_hand self.old self.new result state.old state.new }
-    {
-        match self.take_hot(life) {
-            None => false,
-            Some(at) => {
-                self.evict_hot(at, w, life, state);
-                true
             }
         }
     }
@@ -272,7 +233,7 @@ impl<'a, K: Copy, V: Copy> CacheShard<'a, K, V> {
         ensures sound { Sound self.new [] }
         ensures used { NoMoreUsed self.old self.new }
         ensures lengths { SameLengths self.old self.new }
-        ensures model { LetsGo (W.Weighter.weight w.now) (L.Lifecycle.life life.now) evicted at self.old self.new state.old state.new }
+        ensures model { LetsGo (W.weight w.now) (L.life life.now) evicted at self.old self.new state.old state.new }
     {
         let value = life.before_evict(state, &r.key, r.value);
         let weight = w.weigh(&r.key, &value);
@@ -297,27 +258,74 @@ impl<'a, K: Copy, V: Copy> CacheShard<'a, K, V> {
         ensures cold { self.new.cold.len ≡ self.old.cold.len }
         ensures model { Promotes at self.old self.new }
     {
-        let reads = if r.reads > 0 { r.reads - 1 } else { 0 };
         let hot = Resident {
             state: ResidentState::Hot,
-            reads,
+            reads: r.reads.saturating_sub(1),
             ..r
         };
         self.overwrite(at, Entry::Resident(hot));
         self.append(RingName::Hot, at);
     }
 
-    // The hot hand steps while the hot weight is above the target.
-    fn cool<W: Weighter<K, V>, L: Lifecycle<K, V>>(&mut self, w: &W, life: &L, state: &mut L::State)
-        requires { Sound self.old [] }
+    // What the cold hand does with the resident in hand at which it stopped: promotes it, or lets it go. Was it promoted?
+    fn leave_cold<W: Weighter<K, V>, L: Lifecycle<K, V>>(
+        &mut self,
+        at: u32,
+        w: &W,
+        life: &L,
+        state: &mut L::State,
+    ) -> bool
+        requires sound { Sound self.old (at ∷ []) }
+        requires kind { kind_of (entry_at self.old at) ≡ in_ring Cold }
         ensures sound { Sound self.new [] }
         ensures used { NoMoreUsed self.old self.new }
-        ensures hot { self.new.hot.len ≤ self.old.hot.len }
+        ensures hot { self.new.hot.len ≤ self.old.hot.len + 1 }
         ensures cold { self.new.cold.len ≡ self.old.cold.len }
-        ensures model { FollowsRings (W.Weighter.weight w.now) (L.Lifecycle.life life.now) cooled self.old self.new state.old state.new }
+        ensures model { LeavesCold (W.weight w.now) (L.life life.now) at self.old self.new result state.old state.new }
+    {
+        let Some(r) = resident_at(&self.slab, at) else {
+            return false;
+        };
+        if r.reads > 0 {
+            self.promote(at, r);
+            return true;
+        }
+        self.evict_cold(at, r, w, life, state);
+        false
+    }
+}
+
+impl<'a, K: Copy, V: Copy> CacheShard<'a, K, V> {
+    // The hot hand: lets one resident go, or says no where the ring is empty or wholly pinned.
+    pub fn advance_hot<W: Weighter<K, V>, L: Lifecycle<K, V>>(
+        &mut self,
+        w: &W,
+        life: &L,
+        state: &mut L::State,
+    ) -> bool
+        ensures used { NoMoreUsed self.old.layout self.new.layout }
+        ensures falls { Falls result self.old.layout self.new.layout }
+        ensures cold { self.new.layout.cold.len ≡ self.old.layout.cold.len }
+        ensures model { FollowsHand (W.weight w.now) (L.life life.now) hot_hand self.old.layout self.new.layout result state.old state.new }
+    {
+        match self.layout.take_hot(life) {
+            None => false,
+            Some(at) => {
+                self.layout.evict_hot(at, w, life, state);
+                true
+            }
+        }
+    }
+
+    // The hot hand steps while the hot weight is above the target.
+    fn cool<W: Weighter<K, V>, L: Lifecycle<K, V>>(&mut self, w: &W, life: &L, state: &mut L::State)
+        ensures used { NoMoreUsed self.old.layout self.new.layout }
+        ensures hot { self.new.layout.hot.len ≤ self.old.layout.hot.len }
+        ensures cold { self.new.layout.cold.len ≡ self.old.layout.cold.len }
+        ensures model { FollowsRings (W.weight w.now) (L.life life.now) cooled self.old.layout self.new.layout state.old state.new }
     {
         'steps: loop {
-            if self.tally.hot_weight <= self.settings.hot_target() {
+            if self.layout.tally.hot_weight <= self.layout.settings.hot_target() {
                 return;
             }
             if !self.advance_hot(w, life, state) {
@@ -326,15 +334,13 @@ impl<'a, K: Copy, V: Copy> CacheShard<'a, K, V> {
         }
     }
 
-    // The place at which the cold hand stops.
+    // The place at which the cold hand stops: the first that it does not go past.
     fn cold_stop<L: Lifecycle<K, V>>(&self, life: &L) -> Option<u32>
-        requires { Sound self.now [] }
-        ensures { Halted (L.Lifecycle.life life.now).pins (ring_places Cold self.now) (slots_in self.now) result }
+        ensures { Halted (L.life life.now).pins (ring_places Cold self.now.layout) (slots_in self.now.layout) result }
     {
-        match self.cold.head {
-            None => None,
-            Some(head) => cold_walk(&self.slab, head, self.cold.len, life),
-        }
+        let slab = &self.layout.slab;
+        slab.ring(self.layout.cold.head, self.layout.cold.len)
+            .find(|at| !cold_passes(slab, *at, life))
     }
 
     // The cold hand: promotes a resident or lets one go; where it can do neither, the hot hand steps instead.
@@ -344,44 +350,18 @@ impl<'a, K: Copy, V: Copy> CacheShard<'a, K, V> {
         life: &L,
         state: &mut L::State,
     ) -> bool
-        requires { Sound self.old [] }
-        ensures sound { Sound self.new [] }
-        ensures used { NoMoreUsed self.old self.new }
-        ensures falls { Falls result self.old self.new }
-        ensures model { FollowsHand (W.Weighter.weight w.now) (L.Lifecycle.life life.now) cold_hand self.old self.new result state.old state.new }
+        ensures used { NoMoreUsed self.old.layout self.new.layout }
+        ensures falls { Falls result self.old.layout self.new.layout }
+        ensures model { FollowsHand (W.weight w.now) (L.life life.now) cold_hand self.old.layout self.new.layout result state.old state.new }
     {
         match self.cold_stop(life) {
             None => self.advance_hot(w, life, state),
             Some(at) => {
-                self.turn_out(RingName::Cold, at);
-                self.leave_cold(at, w, life, state);
+                self.layout.turn_out(RingName::Cold, at);
+                if self.layout.leave_cold(at, w, life, state) {
+                    self.cool(w, life, state);
+                }
                 true
-            }
-        }
-    }
-
-    // What the cold hand does with the resident at which it stopped.
-    fn leave_cold<W: Weighter<K, V>, L: Lifecycle<K, V>>(
-        &mut self,
-        at: u32,
-        w: &W,
-        life: &L,
-        state: &mut L::State,
-    )
-        requires sound { Sound self.old (at ∷ []) }
-        requires kind { kind_of (entry_at self.old at) ≡ in_ring Cold }
-        ensures sound { Sound self.new [] }
-        ensures used { NoMoreUsed self.old self.new }
-        ensures hot { self.new.hot.len ≤ self.old.hot.len + 1 }
-        ensures cold { self.new.cold.len ≡ self.old.cold.len }
-        ensures model { LetsGo (W.Weighter.weight w.now) (L.Lifecycle.life life.now) leaves_cold at self.old self.new state.old state.new }
-    {
-        if let Some(r) = resident_at(&self.slab, at) {
-            if r.reads > 0 {
-                self.promote(at, r);
-                self.cool(w, life, state);
-            } else {
-                self.evict_cold(at, r, w, life, state);
             }
         }
     }
@@ -394,13 +374,11 @@ impl<'a, K: Copy, V: Copy> CacheShard<'a, K, V> {
         life: &L,
         state: &mut L::State,
     )
-        requires { Sound self.old [] }
-        ensures sound { Sound self.new [] }
-        ensures used { NoMoreUsed self.old self.new }
-        ensures model { FollowsRings (W.Weighter.weight w.now) (L.Lifecycle.life life.now) (λ u t. shrunk u coming t) self.old self.new state.old state.new }
+        ensures used { NoMoreUsed self.old.layout self.new.layout }
+        ensures model { FollowsRings (W.weight w.now) (L.life life.now) (λ u t. shrunk u coming t) self.old.layout self.new.layout state.old state.new }
     {
         'steps: loop {
-            if self.tally.weight() + coming as u64 <= self.settings.capacity() {
+            if self.layout.tally.weight() + coming as u64 <= self.layout.settings.capacity() {
                 return;
             }
             if !self.advance_cold(w, life, state) {

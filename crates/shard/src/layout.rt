@@ -1,6 +1,6 @@
-// Moving entries between the rings, and the counts that go with what is written. Nothing else in the crate links a
-// slot, fills one or frees one.
-ghost use Rattle.std.specs.Prelude.{◌≡◌, ℕ, ◌<◌, ◌≤◌, [], ◌∷◌, length, Some, None, slice_set};
+// What a shard consists of, and moving entries between its rings, with the counts that go with what is written. Nothing
+// else in the crate links a slot, fills one or frees one.
+ghost use Rattle.std.specs.Prelude.{◌≡◌, ◌<◌, ◌≤◌, [], ◌∷◌, length, Some, None, slice_set};
 ghost use Rattle.ring_slab.specs.Places.{count};
 ghost use Rattle.ring_slab.specs.Slots.{items, hashes};
 ghost use Rattle.ring_slab.specs.Calls.{set_if};
@@ -8,12 +8,29 @@ ghost use Rattle.shard.specs.Layout.{slots, ring as head_and_length, with_ring, 
 ghost use Rattle.shard.specs.Moves.{handed, Appends, TurnsOut, Deletes, Occupies, Overwrites, Releases};
 ghost use Rattle.shard.specs.Steps.{SameTerms};
 
-use crate::cache_shard::CacheShard;
 use crate::counting::uncounted;
 use crate::entry::Entry;
 use crate::ring::{Ring, RingName};
+use crate::tally::Tally;
+use ring_slab::linked_slab::LinkedSlab;
+use settings::Settings;
 
-impl<'a, K: Copy, V: Copy> CacheShard<'a, K, V> {
+// The slots of a shard, the rings in them, what is counted of them, and the terms that it works under. While a call moves an
+// entry, its place is in hand: in no ring. What is in hand differs from function to function, so what is known of it, and that
+// the lists stand, are clauses of each here; in `CacheShard` it is a fact of the type.
+#[derive(Drop)]
+pub struct Layout<'a, K: Copy, V: Copy> {
+    pub slab: LinkedSlab<'a, Entry<K, V>>,
+    pub settings: Settings,
+    pub hot: Ring,
+    pub cold: Ring,
+    pub ghosts: Ring,
+    pub tally: Tally,
+    // how many tickets have been given out
+    pub issued: u64,
+}
+
+impl<'a, K: Copy, V: Copy> Layout<'a, K, V> {
     // The ring of that name.
     pub fn ring(&self, name: RingName) -> Ring
         ensures { result ≡ head_and_length name self.now }

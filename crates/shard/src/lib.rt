@@ -3,6 +3,7 @@
 #![tactic(auto)]
 
 pub mod access;
+pub mod arrival;
 pub mod cache;
 pub mod cache_shard;
 pub mod counting;

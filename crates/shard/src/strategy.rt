@@ -13,10 +13,3 @@ pub struct Returned<V> {
     pub why: Refusal,
     pub value: V,
 }
-
-// Whether a record may come in: as it is now, with its weight; or not even after a trim.
-#[derive(Clone, Copy)]
-pub enum Admission<V> {
-    Fits(V, u32),
-    TooHeavy(V),
-}

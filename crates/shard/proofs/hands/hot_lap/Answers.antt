@@ -3,7 +3,8 @@ use Rattle.ring_slab.specs.Places.{look}
 use Rattle.ring_slab.specs.Slots.{nexts}
 use Rattle.ring_slab.specs.Rings.{walk}
 use Rattle.ring_slab.specs.Calls.{slots_of}
-use Rattle.shard.proofs.Laps.{Mid, and_true, and_false, walk_length, walk_leads, standing, shape_refl, shape_trans, mid_start, mid_more, mid_stop, mid_unpinned, mid_pinned}
+use Rattle.std.proofs.Math.Bool.{and-true, and-false}
+use Rattle.shard.proofs.Laps.{Mid, walk_length, walk_leads, standing, shape_refl, shape_trans, mid_start, mid_more, mid_stop, mid_unpinned, mid_pinned}
 use Rattle.shard.proofs.hands.hot_lap.Goals as goal
 use Rattle.shard.proofs.hands.hot_lap.Goals.{in-Unpinned, in-Pinned}
 
@@ -48,10 +49,10 @@ lap-preserved g c =
     elim c.match-touch.branch [
       | in-Unpinned w ↦
           let e = w.in-Unpinned.ensures in
-          (subst P (and_false c.lap.all ∙ sym w.all-is) (go false c.requires (omega arith) c.lap.invariant.0 e.shape.links e.items e.met.1 e.met.0 e.met.2 c.next_of-at.ensures.link), sh)
+          (subst P (and-false c.lap.all ∙ sym w.all-is) (go false c.requires (omega arith) c.lap.invariant.0 e.shape.links e.items e.met.1 e.met.0 e.met.2 c.next_of-at.ensures.link), sh)
       | in-Pinned w ↦
           let e = w.in-Pinned.ensures in
-          (subst P (and_true c.lap.all ∙ sym w.all-is) (go true c.requires (omega arith) c.lap.invariant.0 e.shape.links e.items e.met.1 e.met.0 (omega arith) c.next_of-at.ensures.link), sh)
+          (subst P (and-true c.lap.all ∙ sym w.all-is) (go true c.requires (omega arith) c.lap.invariant.0 e.shape.links e.items e.met.1 e.met.0 (omega arith) c.next_of-at.ensures.link), sh)
     ]
 
 pub returns-then-all : goal.returns-then-all

@@ -24,8 +24,6 @@ laps-preserved g c =
       shape_trans c.laps.invariant.1 e.shape,
     )
 
-pub returns-in-Pinned : goal.returns-in-Pinned
-returns-in-Pinned g c =
-    let e = c.in-Pinned.ensures in
-    let q = round_none (g.L.Lifecycle.life c.args.life.now).pins c.args.head c.args.len (slots_of c.args.slab.now) (slots_of c.laps.slab) (slots_of c.hot_lap.new.slab) c.laps.invariant.0 e.lapped in
-    record { shape = shape_trans c.laps.invariant.1 e.shape; reads = q.only; off = q.off; place = tt; model = q.walks }
+pub returns-in-Pinned-clause-model : goal.returns-in-Pinned-clause-model
+returns-in-Pinned-clause-model g c =
+    (round_none (g.L.Lifecycle.life c.args.life.now).pins c.args.head c.args.len (slots_of c.args.slab.now) (slots_of c.laps.slab) (slots_of c.hot_lap.new.slab) c.laps.invariant.0 c.in-Pinned.ensures.lapped).walks

@@ -1,5 +1,5 @@
 use Rattle.std.proofs.Common.{Some, sym, ap, ◌∙◌, subst}
-use Rattle.shard.specs.Hands.{worn, passes, Meets}
+use Rattle.shard.specs.Hands.{worn, Meets}
 use Rattle.shard.proofs.Laps.{touched, item_is}
 use Rattle.shard.proofs.hands.touch_slot.Goals as goal
 
@@ -14,10 +14,3 @@ returns-in-Some g c =
       items = t.items;
       met = subst (λ o. Meets (g.L.Lifecycle.life c.args.life.now).pins o c.touch_entry.result) (sym (item_is s c.args.at d c.requires ∙ c.in-Some.is)) e.met;
     }
-
-pub returns-in-None : goal.returns-in-None
-returns-in-None g c =
-    let s = c.args.s.now in
-    let d = c.index-s-at.result in
-    let t = touched s c.args.at d _ c.requires (c.in-None.is ∙ ap worn (sym c.in-None.is)) in
-    record { links = t.links; items = t.items; met = ap (passes (g.L.Lifecycle.life c.args.life.now).pins) (item_is s c.args.at d c.requires ∙ c.in-None.is) }

@@ -1,11 +1,12 @@
 -- Taken out, and freed.
-use Rattle.shard.proofs.Inserting.{expels, terms_after}
+use Rattle.shard.proofs.Props.{sound_of}
+use Rattle.shard.proofs.Inserting.{expels}
 use Rattle.shard.proofs.cache_shard.CacheShard.expel.Goals as goal
 
-pub returns : goal.returns
-returns g c =
-    record {
-      sound = c.release.ensures.sound;
-      terms = terms_after c.args.self.now c.take_out.new.self c.release.new.self c.take_out.ensures.entries c.release.ensures.terms;
-      model = expels c.args.at c.args.r c.args.self.now c.take_out.new.self c.release.new.self c.take_out.ensures.model c.release.ensures.places c.release.ensures.items c.release.ensures.hashes;
-    }
+pub take_out-requires-clause-sound : goal.take_out-requires-clause-sound
+take_out-requires-clause-sound g c = sound_of c.args.self.now
+
+pub returns-clause-model : goal.returns-clause-model
+returns-clause-model g c =
+    let f = c.release.ensures in
+    expels c.args.at c.args.r c.args.self.now.layout c.take_out.new.self c.release.new.self c.take_out.ensures.model f.places f.items f.hashes

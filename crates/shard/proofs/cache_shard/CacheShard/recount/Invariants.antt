@@ -6,4 +6,4 @@ use Rattle.shard.specs.Layout.{slots}
 use Rattle.shard.proofs.cache_shard.CacheShard.recount.Given as goal
 
 abbrev pub invariant-slots : goal.invariant-slots
-invariant-slots g l = l.tally ≡ recounted (take l.at (items (slots l.self)))
+invariant-slots g l = l.tally ≡ recounted (take l.slot-index (items (slots l.self.layout)))
