@@ -1,20 +1,18 @@
 -- The laws over all that can be read.
-use Rattle.std.proofs.Common.{◌≡◌, ℕ, ◌+◌, ◌-◌, ◌^◌, ◌<◌, ◌≤◌, min, Bool, true, false, cond, ◌⊎◌, List, [], ◌∷◌, length, take, Some, None, Ok, Err, Option, Result, sym, refl, ap, ◌∙◌, subst, inl, inr, true≢false, arith}
+use Rattle.std.proofs.Common.{◌≡◌, ℕ, ◌+◌, ◌-◌, ◌^◌, ◌≤◌, min, Bool, true, false, cond, ◌⊎◌, List, [], ◌∷◌, length, Some, None, Ok, Err, Option, Result, sym, refl, ap, ◌∙◌, subst, inl, inr, true≢false, arith}
 use Rattle.interface.specs.declared.refusal.Refusal.{Refusal}
 use Rattle.settings.specs.Rules.{Limits, set_up}
 use Rattle.survey.specs.declared.length.Length.{Length}
-use Rattle.survey.specs.declared.keys.LengthNumber.{LengthNumber}
 use Rattle.survey.specs.declared.write_back.Row.{Row}
-use Rattle.survey.specs.declared.write_back.WriteBackBuffer.{WriteBackBuffer}
-use Rattle.survey.specs.WritingBack.{Call, on_evict_hot, standing, corrected, after_all, noted, Gathers}
+use Rattle.survey.specs.WritingBack.{Call, standing, corrected, after_all, Gathers}
 use Rattle.survey_text.specs.declared.faults.Fault.{Fault}
 use Rattle.survey_text.specs.declared.statements.Statement.{Statement}
-use Rattle.survey_text.specs.declared.statements.Statement.TheVariants.{Nothing, Setup, Record}
+use Rattle.survey_text.specs.declared.statements.Statement.TheVariants.{Setup, Record}
 use Rattle.inspection.specs.declared.totals.Totals.{Totals}
 use Rattle.inspection.specs.declared.verdicts.Verdict.{Verdict}
 use Rattle.inspection.specs.declared.verdicts.Verdict.TheVariants.{Unjudged, Fits, FitsTrimmed, TooHeavy}
 use Rattle.inspection.specs.Sums.{plus, none_yet, counted}
-use Rattle.inspection.specs.Sessions.{State, followed, set_up_box, inspected, leaving, measured}
+use Rattle.inspection.specs.Sessions.{State, followed, set_up_box, inspected, leaving}
 use Rattle.inspection.specs.Runs.{Reading, goes_on, run, AddsUp, correction, corrections, handed, leave_taking, Accounts}
 
 -- one pipe length more
@@ -35,11 +33,11 @@ box_rows s line (Some b) r = refl
 box_rows s line None (Ok l) = refl
 box_rows s line None (Err e) = refl
 
-step_adds : (s : State) (line : ℕ) (read : Result Statement Fault) → AddsUp s.totals → AddsUp (followed s line read).0.totals
-step_adds s line (Ok Nothing) h = h
-step_adds s line (Ok (Setup capacity items hot ghosts)) h =
-    subst AddsUp (sym (box_totals s line s.box (set_up capacity items hot ghosts))) h
-step_adds s line (Ok (Record key l)) h = counted_adds s.totals (cond l.changed 1 0) (inspected s.box l).weight (inspected s.box l).trimmed (inspected s.box l).verdict h
+step_adds : (s : State) (line : ℕ) (read : Result (Option Statement) Fault) → AddsUp s.totals → AddsUp (followed s line read).0.totals
+step_adds s line (Ok None) h = h
+step_adds s line (Ok (Some (Setup box))) h =
+    subst AddsUp (sym (box_totals s line s.box (set_up box.capacity box.items box.hot box.ghosts))) h
+step_adds s line (Ok (Some (Record key l))) h = counted_adds s.totals (cond l.changed 1 0) (inspected s.box l).weight (inspected s.box l).trimmed (inspected s.box l).verdict h
 step_adds s line (Err fault) h = h
 
 run_adds : (s : State) (rs : List Reading) → AddsUp s.totals → AddsUp (run s rs).totals
@@ -47,10 +45,10 @@ run_adds s [] h = h
 run_adds s (r ∷ rs) h = run_adds (goes_on s r) rs (step_adds s r.0 r.1 h)
 
 -- the corrected pipe lengths are counted
-step_corrected : (s : State) (line : ℕ) (read : Result Statement Fault) → (followed s line read).0.totals.corrected ≡ plus s.totals.corrected (correction read) ⊎ ((followed s line read).0.totals ≡ s.totals) × (correction read ≡ 0)
-step_corrected s line (Ok Nothing) = inr (refl, refl)
-step_corrected s line (Ok (Setup capacity items hot ghosts)) = inr (box_totals s line s.box (set_up capacity items hot ghosts), refl)
-step_corrected s line (Ok (Record key l)) = inl (counted_corrected s.totals (cond l.changed 1 0) (inspected s.box l).weight (inspected s.box l).trimmed (inspected s.box l).verdict)
+step_corrected : (s : State) (line : ℕ) (read : Result (Option Statement) Fault) → (followed s line read).0.totals.corrected ≡ plus s.totals.corrected (correction read) ⊎ ((followed s line read).0.totals ≡ s.totals) × (correction read ≡ 0)
+step_corrected s line (Ok None) = inr (refl, refl)
+step_corrected s line (Ok (Some (Setup box))) = inr (box_totals s line s.box (set_up box.capacity box.items box.hot box.ghosts), refl)
+step_corrected s line (Ok (Some (Record key l))) = inl (counted_corrected s.totals (cond l.changed 1 0) (inspected s.box l).weight (inspected s.box l).trimmed (inspected s.box l).verdict)
   where
     counted_corrected : (t : Totals) (correction weight trimmed : ℕ) (v : Verdict) → (counted t correction weight trimmed v).corrected ≡ plus t.corrected correction
     counted_corrected t correction weight trimmed Unjudged = refl
@@ -68,11 +66,11 @@ run_corrected s (r ∷ rs) h =
     omega (arith, rest, next)
 
 -- the rows are what write-back makes of the records that are handed to it
-step_rows : (s : State) (line : ℕ) (read : Result Statement Fault) (calls : List Call)
+step_rows : (s : State) (line : ℕ) (read : Result (Option Statement) Fault) (calls : List Call)
     → after_all (followed s line read).0.rows calls ≡ after_all s.rows (handed s read calls)
-step_rows s line (Ok Nothing) calls = refl
-step_rows s line (Ok (Setup capacity items hot ghosts)) calls = ap (λ b. after_all b calls) (box_rows s line s.box (set_up capacity items hot ghosts))
-step_rows s line (Ok (Record key l)) calls = refl
+step_rows s line (Ok None) calls = refl
+step_rows s line (Ok (Some (Setup box))) calls = ap (λ b. after_all b calls) (box_rows s line s.box (set_up box.capacity box.items box.hot box.ghosts))
+step_rows s line (Ok (Some (Record key l))) calls = refl
 step_rows s line (Err fault) calls = refl
 
 run_rows : (s : State) (rs : List Reading) → (run s rs).rows ≡ after_all s.rows (leave_taking s rs)
@@ -86,10 +84,10 @@ leaving_changed Fits l = refl
 leaving_changed FitsTrimmed l = refl
 leaving_changed TooHeavy l = refl
 
-step_lost : (s : State) (read : Result Statement Fault) (calls : List Call) → length (corrected (handed s read calls)) ≡ correction read + length (corrected calls)
-step_lost s (Ok Nothing) calls = omega arith
-step_lost s (Ok (Setup capacity items hot ghosts)) calls = omega arith
-step_lost s (Ok (Record key l)) calls =
+step_lost : (s : State) (read : Result (Option Statement) Fault) (calls : List Call) → length (corrected (handed s read calls)) ≡ correction read + length (corrected calls)
+step_lost s (Ok None) calls = omega arith
+step_lost s (Ok (Some (Setup box))) calls = omega arith
+step_lost s (Ok (Some (Record key l))) calls =
     kept_one (leaving (inspected s.box l).verdict l).changed l.changed (leaving_changed (inspected s.box l).verdict l) (record { key = key; val = leaving (inspected s.box l).verdict l }) (corrected calls)
   where
     kept_one : (b c : Bool) → b ≡ c → (row : Row) (rows : List Row) → length (cond b (row ∷ rows) rows) ≡ cond c 1 0 + length rows

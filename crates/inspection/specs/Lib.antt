@@ -3,3 +3,4 @@ pub mod Refused
 pub mod Sums
 pub mod Sessions
 pub mod Runs
+pub mod Printed

@@ -1,33 +1,55 @@
-ghost use Rattle.std.specs.Prelude.{◌≡◌, List, None, Ok};
+ghost use Rattle.std.specs.Prelude.{◌≡◌, ℕ, List, Some, None, Ok, Err};
 ghost use Rattle.std.specs.Option.{option_map};
 ghost use Rattle.settings.specs.Rules.{set_up};
 ghost use Rattle.settings.specs.Standing.{limits};
+ghost use Rattle.survey.specs.FirstRows.{none};
 ghost use Rattle.survey.specs.WritingBack.{noted, Gathers};
-ghost use Rattle.inspection.specs.Sessions.{state, inspected, leaving, measured, turned_down, set_up_box, followed, SameButRows};
+ghost use Rattle.inspection.specs.Sessions.{state, inspected, leaving, measured, set_up_box, followed, closed, settled, reported, SameButRows};
+ghost use Rattle.inspection.specs.Printed.{report_words};
 ghost use Rattle.inspection.specs.Sums.{none_yet};
 ghost use Rattle.inspection.specs.Runs.{Reading, Accounts};
 
-use crate::refused::RefusedLines;
+use crate::refused::{RefusedLine, RefusedLines};
 use crate::totals::Totals;
 use crate::verdicts::{Inspected, Verdict, inspect};
 use interface::Lifecycle;
 use settings::Settings;
+use std::fmt;
 use survey::keys::LengthNumber;
 use survey::length::Length;
 use survey::write_back::{WriteBack, WriteBackBuffer};
 use survey_text::faults::Fault;
-use survey_text::statements::Statement;
+use survey_text::statements::{BoxSettings, Statement};
 
 mod reading;
 
 // What there is to say of a line.
-#[derive(Clone, Copy)]
+#[derive(Clone, Copy, PartialEq, Eq, Debug)]
 pub enum Report {
-    Silent,
-    // the box is set up: its capacity, hot target and ghost bound
-    BoxSetUp(u64, u64, u64),
+    // the box is set up
+    BoxSetUp(Settings),
+    // a pipe length, and what the box would do with it
     Measured(LengthNumber, Length, Inspected),
-    LineRefused(Fault),
+}
+
+impl fmt::Display for Report {
+    ghost output = { λ r. Some (report_words r) };
+
+    fn fmt<W: fmt::Write>(&self, f: &mut fmt::Formatter<W>) -> fmt::Result {
+        match self {
+            Report::BoxSetUp(settings) => write!(
+                f,
+                "box of capacity {}: hot target {}, ghost bound {}",
+                settings.capacity(),
+                settings.hot_target(),
+                settings.ghost_bound()
+            ),
+            Report::Measured(key, length, inspected) => {
+                let mark = if length.changed() { ", changed" } else { "" };
+                write!(f, "length {}: {inspected}{mark}", key.0)
+            }
+        }
+    }
 }
 
 // An inspection under way: the box, the totals, the lines that were refused, and the corrected records that
@@ -65,74 +87,61 @@ impl Session {
     pub fn new() -> Session
         ensures without { (state result).box ≡ None }
         ensures totals { (state result).totals ≡ none_yet }
-        ensures refused { (state result).refused.count ≡ 0 }
-        ensures rows { (state result).rows.count ≡ 0 }
+        ensures refused { (state result).refused ≡ none }
+        ensures rows { (state result).rows ≡ none }
         ensures accounts { (rs : List Reading) → Accounts (state result) rs }
     {
         Session {
-            totals: Totals::new(),
-            refused: RefusedLines::new(),
+            totals: Totals::default(),
+            refused: RefusedLines::filled(RefusedLine::NONE),
             rows: WriteBackBuffer::new(),
             settings: None,
         }
     }
 
-    // Goes on with line number `line`, and says what there is to say of it.
-    pub fn follow(&mut self, line: u64, read: Result<Statement, Fault>) -> Report
+    // Goes on with line number `line`, and says what there is to say of it, or why the line is refused.
+    pub fn follow(
+        &mut self,
+        line: u64,
+        read: Result<Option<Statement>, Fault>,
+    ) -> Result<Option<Report>, Fault>
         ensures state { state self.new ≡ (followed (state self.old) line read).0 }
-        ensures report { result ≡ (followed (state self.old) line read).1 }
+        ensures report { reported result ≡ (followed (state self.old) line read).1 }
     {
-        match read {
-            Ok(statement) => self.obey(line, statement),
-            Err(fault) => self.refuse(line, fault),
+        let report = self.obey(read);
+        if let Err(fault) = report {
+            self.refused.note(RefusedLine { line, fault });
         }
+        report
     }
 
     // Does what a line says.
-    fn obey(&mut self, line: u64, said: Statement) -> Report
-        ensures state { state self.new ≡ (followed (state self.old) line (Ok said)).0 }
-        ensures report { result ≡ (followed (state self.old) line (Ok said)).1 }
+    fn obey(&mut self, read: Result<Option<Statement>, Fault>) -> Result<Option<Report>, Fault>
+        ensures { (line : ℕ) → followed (state self.old) line read ≡ closed line (state self.new) (reported result) }
     {
-        match said {
-            Statement::Nothing => Report::Silent,
-            Statement::Setup(capacity, items, hot, ghosts) => self.set_up(
-                line, capacity, items, hot, ghosts,
-            ),
-            Statement::Record(key, length) => {
+        match read? {
+            None => Ok(None),
+            Some(Statement::Setup(wanted)) => {
+                let settings = self.set_up(wanted)?;
+                Ok(Some(Report::BoxSetUp(settings)))
+            }
+            Some(Statement::Record(key, length)) => {
                 let inspected = self.inspect(key, length);
-                Report::Measured(key, length, inspected)
+                Ok(Some(Report::Measured(key, length, inspected)))
             }
         }
     }
 
     // Sets up the box, unless one is.
-    fn set_up(&mut self, line: u64, capacity: u64, items: u64, hot: f64, ghosts: f64) -> Report
-        ensures state { state self.new ≡ (set_up_box (state self.old) line (option_map limits self.old.settings) (set_up capacity items hot ghosts)).0 }
-        ensures report { result ≡ (set_up_box (state self.old) line (option_map limits self.old.settings) (set_up capacity items hot ghosts)).1 }
+    fn set_up(&mut self, wanted: BoxSettings) -> Result<Settings, Fault>
+        ensures { (line : ℕ) → set_up_box (state self.old) line (state self.old).box (set_up wanted.capacity wanted.items wanted.hot wanted.ghosts) ≡ closed line (state self.new) (settled result) }
     {
         if self.settings.is_some() {
-            return self.refuse(line, Fault::SecondBox);
+            return Err(Fault::SecondBox);
         }
-        match Settings::new(capacity, items, hot, ghosts) {
-            Ok(settings) => {
-                self.settings = Some(settings);
-                Report::BoxSetUp(
-                    settings.capacity(),
-                    settings.hot_target(),
-                    settings.ghost_bound(),
-                )
-            }
-            Err(refusal) => self.refuse(line, Fault::Refused(refusal)),
-        }
-    }
-
-    // Notes a line that is refused.
-    fn refuse(&mut self, line: u64, fault: Fault) -> Report
-        ensures state { state self.new ≡ turned_down (state self.old) line fault }
-        ensures report { result ≡ Report.LineRefused fault }
-    {
-        self.refused.note(line, fault);
-        Report::LineRefused(fault)
+        let settings = Settings::new(wanted.capacity, wanted.items, wanted.hot, wanted.ghosts)?;
+        self.settings = Some(settings);
+        Ok(settings)
     }
 
     // Inspects a pipe length, and lets it leave.
@@ -150,16 +159,13 @@ impl Session {
     fn hot_target(&self) -> Option<u64>
         ensures { result ≡ option_map (λ b. b.target) (option_map limits self.now.settings) }
     {
-        match self.settings {
-            Some(settings) => Some(settings.hot_target()),
-            None => None,
-        }
+        self.settings.map(|settings| settings.hot_target())
     }
 
     // Begins with new rows, once those that stand are written.
     pub fn next_rows(&mut self)
         ensures others { SameButRows (state self.old) (state self.new) }
-        ensures rows { (state self.new).rows.count ≡ 0 }
+        ensures rows { (state self.new).rows ≡ none }
         ensures gathers { Gathers (state self.new).rows }
     {
         self.rows = WriteBackBuffer::new();

@@ -1,11 +1,13 @@
-ghost use Rattle.std.specs.Prelude.{◌≡◌};
-ghost use Rattle.inspection.specs.Sums.{none_yet, tallied, balance};
+ghost use Rattle.std.specs.Prelude.{◌≡◌, Some};
+ghost use Rattle.inspection.specs.Printed.{balance_words};
+ghost use Rattle.inspection.specs.Sums.{tallied, balance};
 
 use crate::verdicts::{Inspected, Verdict};
+use std::fmt;
 
 // How many pipe lengths came, by verdict, how many of them were corrected, and what those that the box lets in
 // weigh together. Each stops at 2^64 - 1.
-#[derive(Clone, Copy)]
+#[derive(Clone, Copy, PartialEq, Eq, Debug, Default)]
 pub struct Totals {
     pub lengths: u64,
     pub fits: u64,
@@ -16,45 +18,41 @@ pub struct Totals {
     pub weight: u64,
 }
 
-// What is left of the capacity, or how much is over it.
-#[derive(Clone, Copy)]
+// What is left of the capacity, or how much is over it. Neither is an error, so this is no `Result`.
+#[derive(Clone, Copy, PartialEq, Eq, Debug)]
 pub enum Balance {
     Left(u64),
     Over(u64),
 }
 
-impl Totals {
-    // Nothing came yet.
-    pub(crate) fn new() -> Totals
-        ensures { result ≡ none_yet }
-    {
-        Totals {
-            lengths: 0,
-            fits: 0,
-            trimmed: 0,
-            heavy: 0,
-            unjudged: 0,
-            corrected: 0,
-            weight: 0,
+impl fmt::Display for Balance {
+    ghost output = { λ b. Some (balance_words b) };
+
+    fn fmt<W: fmt::Write>(&self, f: &mut fmt::Formatter<W>) -> fmt::Result {
+        match self {
+            Balance::Left(left) => write!(f, "{left} left"),
+            Balance::Over(over) => write!(f, "{over} over"),
         }
     }
+}
 
+impl Totals {
     // One pipe length more.
     pub(crate) fn add(&mut self, inspected: Inspected, corrected: bool)
         ensures { self.new ≡ tallied self.old inspected corrected }
     {
         self.lengths = self.lengths.saturating_add(1);
-        self.corrected = self.corrected.saturating_add(if corrected { 1 } else { 0 });
+        self.corrected = self.corrected.saturating_add(u64::from(corrected));
         match inspected.verdict {
             Verdict::Unjudged => self.unjudged = self.unjudged.saturating_add(1),
             Verdict::TooHeavy => self.heavy = self.heavy.saturating_add(1),
             Verdict::Fits => {
                 self.fits = self.fits.saturating_add(1);
-                self.weight = self.weight.saturating_add(inspected.weight as u64);
+                self.weight = self.weight.saturating_add(u64::from(inspected.weight));
             }
             Verdict::FitsTrimmed => {
                 self.trimmed = self.trimmed.saturating_add(1);
-                self.weight = self.weight.saturating_add(inspected.trimmed as u64);
+                self.weight = self.weight.saturating_add(u64::from(inspected.trimmed));
             }
         }
     }

@@ -1,7 +1,7 @@
 -- The quotient of two whole numbers up to 2^53 rounds once; and what `read_on` reads stays within its limit.
-use Rattle.std.proofs.Common.{◌≡◌, ℕ, zero, suc, ◌+◌, ◌-◌, ◌*◌, ◌^◌, ◌<◌, ◌≤◌, Bool, true, false, cond, eqb, leb, ◌⊎◌, List, [], ◌∷◌, ℤ, pos, IfOk, Ok, Err, Result, sym, refl, ap, ◌∙◌, subst, inl, inr, true≢false, mul_assoc, mul_comm, mul-pos, mul-one, mul_left_comm, arith}
-use lib.Ieee.{Float, nan, inf, fin, Format, binary64, up, down, round, div, of_int}
-use lib.Ieee.Fits.{up_pos, down_pos}
+use Rattle.std.proofs.Common.{◌≡◌, ℕ, ◌+◌, ◌-◌, ◌*◌, ◌^◌, ◌<◌, ◌≤◌, Bool, true, false, cond, eqb, leb, List, [], ◌∷◌, pos, IfOk, Ok, Err, Result, sym, refl, ◌∙◌, true≢false, mul_assoc, mul_comm, mul-pos, mul-one, mul_left_comm, arith}
+use lib.Ieee.{Float, nan, inf, fin, binary64, up, down, round, div, of_int}
+use lib.Ieee.Fits.{down_pos}
 use lib.Ieee.Exact.{HasValue}
 use lib.Ieee.Back.{round_whole}
 use lib.Ieee.Positive.{first_pos}

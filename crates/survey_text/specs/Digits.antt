@@ -4,8 +4,7 @@ use Rattle.std.specs.Float.{binary64}
 use Rattle.std.specs.Float.Ieee.{round}
 use Rattle.survey_text.specs.declared.digits.Unreadable.{Unreadable}
 use Rattle.survey_text.specs.declared.digits.Unreadable.TheVariants.{NotDigits, TooLarge}
-use Rattle.survey_text.specs.declared.words.Class.TheVariants.{Whole}
-use Rattle.survey_text.specs.Words.{front, behind}
+use Rattle.survey_text.specs.Words.{front, behind, whole}
 
 -- 15 digits make a whole number that is a float
 abbrev pub most_digits : ℕ
@@ -30,7 +29,7 @@ number most word = cond (length word == 0) (Err NotDigits) (read_on most (Ok 0) 
 
 -- the digits behind a decimal point
 abbrev pub fraction : List ℕ → List ℕ
-fraction word = drop 1 (behind Whole word)
+fraction word = drop 1 (behind whole word)
 
 -- n / 10^k, as the float nearest to it
 abbrev pub decimal : Result ℕ Unreadable → ℕ → Option Float
@@ -40,6 +39,6 @@ decimal (Err e) k = None
 -- a decimal number of 1 to 15 digits, with or without a point
 abbrev pub share : List ℕ → Option Float
 share word =
-    cond (nat_le 1 (length (front Whole word) + length (fraction word)) && nat_le (length (front Whole word) + length (fraction word)) 15)
-    (decimal (read_on most_digits (read_on most_digits (Ok 0) (front Whole word)) (fraction word)) (length (fraction word)))
+    cond (nat_le 1 (length (front whole word) + length (fraction word)) && nat_le (length (front whole word) + length (fraction word)) 15)
+    (decimal (read_on most_digits (read_on most_digits (Ok 0) (front whole word)) (fraction word)) (length (fraction word)))
     None

@@ -1,34 +1,39 @@
 -- How a line of the survey is cut into words.
-use Rattle.std.specs.Prelude.{ℕ, Bool, true, false, not, ◌||◌, List, take, drop, ◌==◌}
+use Rattle.std.specs.Prelude.{ℕ, Bool, not, cond, ◌||◌, List, length, take, drop, Some, None, Option, ◌==◌}
 use Rattle.std.specs.List.{prefix_len}
-use Rattle.survey_text.specs.declared.words.Class.{Class}
-use Rattle.survey_text.specs.declared.words.Class.TheVariants.{Blank, Written, Uncommented, Whole}
 
 -- between words stand spaces, tabs and carriage returns
 abbrev pub blank : ℕ → Bool
 blank c = c == 32 || c == 9 || c == 13
 
--- the bytes of each class: blanks, those of a word, those before a '#', those before a '.'
-abbrev pub belongs : Class → ℕ → Bool
-belongs Blank c = blank c
-belongs Written c = not (blank c)
-belongs Uncommented c = not (c == 35)
-belongs Whole c = not (c == 46)
+-- the bytes of a word, those before a '#', and those before a '.'
+abbrev pub written : ℕ → Bool
+written c = not (blank c)
 
--- the longest front of one class, and what follows it
-abbrev pub front : Class → List ℕ → List ℕ
-front class s = take (prefix_len (belongs class) s) s
+abbrev pub uncommented : ℕ → Bool
+uncommented c = not (c == 35)
 
-abbrev pub behind : Class → List ℕ → List ℕ
-behind class s = drop (prefix_len (belongs class) s) s
+abbrev pub whole : ℕ → Bool
+whole c = not (c == 46)
+
+-- the longest front of bytes that pass, and what follows it
+abbrev pub front : (ℕ → Bool) → List ℕ → List ℕ
+front test s = take (prefix_len test s) s
+
+abbrev pub behind : (ℕ → Bool) → List ℕ → List ℕ
+behind test s = drop (prefix_len test s) s
 
 -- a line without its comment
 abbrev pub content : List ℕ → List ℕ
-content line = front Uncommented line
+content line = front uncommented line
 
 -- the first word, empty where there is none, and what follows it
 abbrev pub first_word : List ℕ → List ℕ
-first_word s = front Written (behind Blank s)
+first_word s = front written (behind blank s)
 
 abbrev pub after_word : List ℕ → List ℕ
-after_word s = behind Written (behind Blank s)
+after_word s = behind written (behind blank s)
+
+-- the first word, if there is one
+abbrev pub word : List ℕ → Option (List ℕ)
+word s = cond (length (first_word s) == 0) None (Some (first_word s))

@@ -1,9 +1,10 @@
 ghost use Rattle.std.specs.Prelude.{◌≡◌, ◌^◌, ◌≤◌, false, IfOk};
 ghost use Rattle.std.specs.Float.{binary64};
 ghost use Rattle.std.specs.Float.Ieee.{round};
-ghost use Rattle.survey_text.specs.Digits.{read_digit, read_on, number as number_of_lem, fraction as fraction_of, share as share_of, most_digits};
+ghost use Rattle.survey_text.specs.Digits.{read_digit, read_on, number as number_of, fraction as fraction_of, share as share_of, most_digits};
+ghost use Rattle.survey_text.specs.Words.{front, whole as whole_of};
 
-use crate::words::{Class, behind, front};
+use crate::words::cut;
 use std::num::nearest_u64_to_f64;
 
 // The largest number of 15 digits.
@@ -22,48 +23,31 @@ pub(crate) enum Unreadable {
 fn next(read: Result<u64, Unreadable>, byte: u8, most: u64) -> Result<u64, Unreadable>
     ensures { result ≡ read_digit most read byte }
 {
-    let digit = b'0' <= byte && byte <= b'9';
-    match read {
-        Err(Unreadable::NotDigits) => Err(Unreadable::NotDigits),
-        Err(Unreadable::TooLarge) => {
-            if digit {
-                Err(Unreadable::TooLarge)
-            } else {
-                Err(Unreadable::NotDigits)
-            }
-        }
-        Ok(n) => {
-            if !digit {
-                return Err(Unreadable::NotDigits);
-            }
-            let more = n as u128 * 10 + (byte - b'0') as u128;
-            if more <= most as u128 {
-                Ok(more as u64)
-            } else {
-                Err(Unreadable::TooLarge)
-            }
-        }
+    if !byte.is_ascii_digit() {
+        return Err(Unreadable::NotDigits);
+    }
+    let more = u128::from(read?) * 10 + u128::from(byte - b'0');
+    if more <= u128::from(most) {
+        Ok(more as u64)
+    } else {
+        Err(Unreadable::TooLarge)
     }
 }
 
 // The digits of the word, read on from what was read before.
 fn read_on(start: Result<u64, Unreadable>, word: &[u8], most: u64) -> Result<u64, Unreadable>
-    ensures value { result ≡ read_on most start word.now }
-    ensures within { IfOk start (λ n. n ≤ most) → IfOk result (λ n. n ≤ most) }
+    ensures { result ≡ read_on most start word.now }
 {
-    let mut read = start;
-    'digits: for i in 0..word.len() {
-        read = next(read, word[i], most);
-    }
-    read
+    word.iter()
+        .fold(start, |read, byte| next(read, *byte, most))
 }
 
 // The whole number that the word writes; the empty word writes none.
 pub(crate) fn number(word: &[u8], most: u64) -> Result<u64, Unreadable>
-    ensures value { result ≡ number_of_lem most word.now }
+    ensures value { result ≡ number_of most word.now }
     ensures within { IfOk result (λ n. n ≤ most) }
 {
-    if word.len() == 0 {
+    if word.is_empty() {
         return Err(Unreadable::NotDigits);
     }
     read_on(Ok(0), word, most)
@@ -74,24 +58,26 @@ pub(crate) fn number(word: &[u8], most: u64) -> Result<u64, Unreadable>
 pub(crate) fn share(word: &[u8]) -> Option<f64>
     ensures { result ≡ share_of word.now }
 {
-    let whole = front(Class::Whole, word);
-    let fraction = fraction(word);
+    let (whole, fraction) = parts(word);
     let digits = whole.len() + fraction.len();
     if digits < 1 || digits > 15 {
         return None;
     }
-    match read_on(read_on(Ok(0), whole, MOST_DIGITS), fraction, MOST_DIGITS) {
-        Ok(n) => Some(quotient(n, fraction.len())),
-        Err(_) => None,
-    }
+    let read = read_on(Ok(0), whole, MOST_DIGITS);
+    let n = read_on(read, fraction, MOST_DIGITS).ok()?;
+    Some(quotient(n, fraction.len()))
 }
 
-// The digits behind the decimal point.
-fn fraction(word: &[u8]) -> &[u8]
-    ensures { result.now ≡ fraction_of word.now }
+// What stands before the decimal point, and what stands behind it.
+fn parts(word: &[u8]) -> (&[u8], &[u8])
+    ensures whole { result.0.now ≡ front whole_of word.now }
+    ensures fraction { result.1.now ≡ fraction_of word.now }
 {
-    let point = behind(Class::Whole, word);
-    if point.len() == 0 { point } else { &point[1..] }
+    let (whole, rest) = cut(word, |byte| *byte == b'.');
+    match rest.split_first() {
+        Some((_, fraction)) => (whole, fraction),
+        None => (whole, rest),
+    }
 }
 
 // n / 10^places, as the float nearest to it: both are floats, so that only the division rounds.

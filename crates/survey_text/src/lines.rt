@@ -1,5 +1,7 @@
 ghost use Rattle.std.specs.Prelude.{◌≤◌, length};
 
+use arrayvec::ArrayVec;
+
 mod filling;
 mod reading;
 
@@ -9,8 +11,7 @@ pub const LINE_BYTES: usize = 1024;
 // A line as it comes in, byte by byte. Of an overlong line the beginning is kept.
 #[derive(Drop)]
 pub struct Line {
-    bytes: [u8; LINE_BYTES],
-    len: usize,
+    bytes: ArrayVec<u8, LINE_BYTES>,
     overlong: bool,
-    ghost within: { len ≤ 1024 },
+    ghost within: { length bytes.items ≤ 1024 },
 }

@@ -1,171 +1,183 @@
-ghost use Rattle.std.specs.Prelude.{◌≡◌, ◌≤◌, true, false, length, take, drop, IfOk, MatchOption};
-ghost use Rattle.std.specs.Str.{bytes_eq};
-ghost use Rattle.survey_text.specs.Statements.{answered, numbered, quantity as quantity_of, portion as portion_of, marked as mark_of, at_end, box_line, length_line, statement as statement_of};
+ghost use Rattle.std.specs.Prelude.{◌≡◌, ◌≤◌, ◌==◌, true, false, length, Ok, Err, IfOk, IfErr, MatchResult};
+ghost use Rattle.survey_text.specs.Fields.{limit};
+ghost use Rattle.survey_text.specs.Digits.{number as number_of};
+ghost use Rattle.survey_text.specs.Words.{first_word, after_word};
+ghost use Rattle.survey_text.specs.Statements.{answered, told, unreadable, counted, named as named_of, numbered, quantity as quantity_of, portion as portion_of, marked as mark_of, ended, box_line, length_line, stated as stated_by, spoken, statement as statement_of};
 
 use crate::digits::{Unreadable, number, share};
 use crate::faults::{Fault, Field};
-use crate::words::{content, next_word};
+use crate::words::{Words, content};
 use survey::keys::LengthNumber;
 use survey::length::Length;
 
+// What a `box` line gives: the box's capacity, the items to expect, and the allocations of the hot residents
+// and of the ghosts.
+#[derive(Clone, Copy, PartialEq, Debug)]
+pub struct BoxSettings {
+    pub capacity: u64,
+    pub items: u64,
+    pub hot: f64,
+    pub ghosts: f64,
+}
+
 // What a line says.
-#[derive(Clone, Copy)]
+#[derive(Clone, Copy, PartialEq, Debug)]
 pub enum Statement {
-    Nothing,
-    // the box: its capacity, the items to expect, and the two allocations
-    Setup(u64, u64, f64, f64),
+    // the box
+    Setup(BoxSettings),
     // a pipe length
     Record(LengthNumber, Length),
 }
 
-// Is the word this text?
-fn same(word: &[u8], text: &[u8]) -> bool
-    ensures { result ≡ bytes_eq word.now text.now }
-{
-    word == text
-}
-
-// A whole number up to `most` in this field.
-fn numeral(field: Field, word: &[u8], most: u64) -> Result<u64, Fault>
-    ensures value { result ≡ numbered field most word.now }
-    ensures within { IfOk result (λ n. n ≤ most) }
-{
-    if word.len() == 0 {
-        return Err(Fault::Missing(field));
-    }
-    match number(word, most) {
-        Ok(n) => Ok(n),
-        Err(Unreadable::NotDigits) => Err(Fault::NotANumber(field)),
-        Err(Unreadable::TooLarge) => Err(Fault::AboveRange(field)),
+impl Unreadable {
+    // The fault of a value of this field that is unreadable so.
+    fn in_field(self, field: Field) -> Fault
+        ensures { result ≡ unreadable field self }
+    {
+        match self {
+            Unreadable::NotDigits => Fault::NotANumber(field),
+            Unreadable::TooLarge => Fault::AboveRange(field),
+        }
     }
 }
 
-// Was the record corrected?
-fn mark(word: &[u8]) -> Result<bool, Fault>
-    ensures { result ≡ mark_of word.now }
+// The whole number that the word writes in this field.
+fn whole(field: Field, word: &[u8]) -> Result<u64, Fault>
+    ensures value { result ≡ counted field (number_of (limit field) word.now) }
+    ensures within { IfOk result (λ n. n ≤ limit field) }
 {
-    if word.len() == 0 {
-        return Err(Fault::Missing(Field::Mark));
+    number(word, field.limit()).map_err(|why| why.in_field(field))
+}
+
+// The values that the words of a statement give, one after the other.
+impl<'a> Words<'a> {
+    // The next word, which this field needs.
+    fn word(&mut self, field: Field) -> Result<&'a [u8], Fault>
+        ensures found { IfOk result (λ w. (w.now ≡ first_word self.old.rest.now) × (length w.now == 0 ≡ false)) }
+        ensures missing { IfErr result (λ e. (e ≡ Fault.Missing field) × (length (first_word self.old.rest.now) == 0 ≡ true)) }
+        ensures rest { self.new.rest.now ≡ after_word self.old.rest.now }
+    {
+        self.next().ok_or(Fault::Missing(field))
     }
-    if same(word, b"changed") {
-        Ok(true)
-    } else if same(word, b"unchanged") {
-        Ok(false)
-    } else {
-        Err(Fault::NotAMark)
+
+    // What stands behind the field's name in the next word.
+    fn named(&mut self, field: Field) -> Result<&'a [u8], Fault>
+        ensures value { MatchResult result (λ v. named_of field (first_word self.old.rest.now) ≡ Ok v.now) (λ e. named_of field (first_word self.old.rest.now) ≡ Err e) }
+        ensures rest { self.new.rest.now ≡ after_word self.old.rest.now }
+    {
+        let word = self.word(field)?;
+        word.strip_prefix(field.name().as_bytes())
+            .ok_or(Fault::NotNamed(field))
+    }
+
+    // A whole number.
+    fn numeral(&mut self, field: Field) -> Result<u64, Fault>
+        ensures value { result ≡ numbered field (first_word self.old.rest.now) }
+        ensures within { IfOk result (λ n. n ≤ limit field) }
+        ensures rest { self.new.rest.now ≡ after_word self.old.rest.now }
+    {
+        let word = self.word(field)?;
+        whole(field, word)
+    }
+
+    // A whole number behind its name.
+    fn quantity(&mut self, field: Field) -> Result<u64, Fault>
+        ensures value { result ≡ quantity_of field (first_word self.old.rest.now) }
+        ensures rest { self.new.rest.now ≡ after_word self.old.rest.now }
+    {
+        let value = self.named(field)?;
+        whole(field, value)
+    }
+
+    // A share behind its name.
+    fn portion(&mut self, field: Field) -> Result<f64, Fault>
+        ensures value { result ≡ portion_of field (first_word self.old.rest.now) }
+        ensures rest { self.new.rest.now ≡ after_word self.old.rest.now }
+    {
+        let value = self.named(field)?;
+        share(value).ok_or(Fault::NotAShare(field))
+    }
+
+    // Was the record corrected?
+    fn mark(&mut self) -> Result<bool, Fault>
+        ensures value { result ≡ mark_of (first_word self.old.rest.now) }
+        ensures rest { self.new.rest.now ≡ after_word self.old.rest.now }
+    {
+        match self.word(Field::Mark)? {
+            b"changed" => Ok(true),
+            b"unchanged" => Ok(false),
+            _ => Err(Fault::NotAMark),
+        }
+    }
+
+    // Nothing more may stand on the line.
+    fn end(&mut self) -> Result<(), Fault>
+        ensures { result ≡ ended self.old.rest.now tt }
+    {
+        match self.next() {
+            None => Ok(()),
+            Some(_) => Err(Fault::Surplus),
+        }
     }
 }
 
-// The value behind this name, if the word begins with the name.
-fn value<'a>(word: &'a [u8], name: &[u8]) -> Option<&'a [u8]>
-    ensures { MatchOption result (bytes_eq name.now (take (length name.now) word.now) ≡ false) (λ v. (bytes_eq name.now (take (length name.now) word.now) ≡ true) × (v.now ≡ drop (length name.now) word.now)) }
+// What a `box` line says, by its words from the second on.
+fn setup(mut words: Words) -> Result<Statement, Fault>
+    ensures { told result ≡ box_line words.entry.rest.now }
 {
-    if word.starts_with(name) {
-        Some(&word[name.len()..])
-    } else {
-        None
-    }
-}
-
-// A whole number behind its name.
-fn quantity(name: &[u8], field: Field, word: &[u8]) -> Result<u64, Fault>
-    ensures { result ≡ quantity_of name.now field word.now }
-{
-    if word.len() == 0 {
-        return Err(Fault::Missing(field));
-    }
-    let Some(value) = value(word, name) else {
-        return Err(Fault::NotNamed(field));
+    let settings = BoxSettings {
+        capacity: words.quantity(Field::Capacity)?,
+        items: words.quantity(Field::Items)?,
+        hot: words.portion(Field::Hot)?,
+        ghosts: words.portion(Field::Ghosts)?,
     };
-    match number(value, u64::MAX) {
-        Ok(n) => Ok(n),
-        Err(Unreadable::NotDigits) => Err(Fault::NotANumber(field)),
-        Err(Unreadable::TooLarge) => Err(Fault::AboveRange(field)),
-    }
+    words.end()?;
+    Ok(Statement::Setup(settings))
 }
 
-// A share behind its name.
-fn portion(name: &[u8], field: Field, word: &[u8]) -> Result<f64, Fault>
-    ensures { result ≡ portion_of name.now field word.now }
+// What a `length` line says, by its words from the second on.
+fn record(mut words: Words) -> Result<Statement, Fault>
+    ensures { told result ≡ length_line words.entry.rest.now }
 {
-    if word.len() == 0 {
-        return Err(Fault::Missing(field));
-    }
-    let Some(value) = value(word, name) else {
-        return Err(Fault::NotNamed(field));
-    };
-    match share(value) {
-        Some(x) => Ok(x),
-        None => Err(Fault::NotAShare(field)),
-    }
-}
-
-// Is there nothing more on the line?
-fn ended(text: &[u8]) -> bool
-    ensures { result ≡ at_end text.now }
-{
-    next_word(text).word.len() == 0
-}
-
-// The values of a `box` line.
-fn setup(text: &[u8]) -> Result<Statement, Fault>
-    ensures { answered result ≡ box_line text.now }
-{
-    let first = next_word(text);
-    let second = next_word(first.rest);
-    let third = next_word(second.rest);
-    let fourth = next_word(third.rest);
-    let capacity = quantity(b"capacity=", Field::Capacity, first.word)?;
-    let items = quantity(b"items=", Field::Items, second.word)?;
-    let hot = portion(b"hot=", Field::Hot, third.word)?;
-    let ghosts = portion(b"ghost=", Field::Ghosts, fourth.word)?;
-    if !ended(fourth.rest) {
-        return Err(Fault::Surplus);
-    }
-    Ok(Statement::Setup(capacity, items, hot, ghosts))
-}
-
-// The values of a `length` line.
-fn record(text: &[u8]) -> Result<Statement, Fault>
-    ensures { answered result ≡ length_line text.now }
-{
-    let first = next_word(text);
-    let second = next_word(first.rest);
-    let third = next_word(second.rest);
-    let fourth = next_word(third.rest);
-    let fifth = next_word(fourth.rest);
-    let key = numeral(Field::Number, first.word, u32::MAX as u64)?;
-    let place = numeral(Field::Place, second.word, u64::MAX)?;
-    let observations = numeral(
-        Field::Observations,
-        third.word,
-        Length::MAX_OBSERVATIONS as u64,
-    )?;
-    let step = numeral(Field::Step, fourth.word, Length::MAX_STEP as u64)?;
-    let changed = mark(fifth.word)?;
-    if !ended(fifth.rest) {
-        return Err(Fault::Surplus);
-    }
+    let key = words.numeral(Field::Number)?;
+    let place = words.numeral(Field::Place)?;
+    let observations = words.numeral(Field::Observations)?;
+    let step = words.numeral(Field::Step)?;
+    let changed = words.mark()?;
+    words.end()?;
     let length = Length::new(place, observations as u32, step as u32, changed).unwrap();
     Ok(Statement::Record(LengthNumber(key as u32), length))
 }
 
-// What the line says. `overlong` says that it is only the beginning of a line.
-pub(crate) fn read_line(line: &[u8], overlong: bool) -> Result<Statement, Fault>
+// What a line says, by its first word and those that follow.
+fn stated(first: &[u8], words: Words) -> Result<Statement, Fault>
+    ensures { told result ≡ stated_by first.now words.entry.rest.now }
+{
+    match first {
+        b"box" => setup(words),
+        b"length" => record(words),
+        _ => Err(Fault::Unknown),
+    }
+}
+
+// What a line without its comment says, if anything.
+fn said(text: &[u8]) -> Result<Option<Statement>, Fault>
+    ensures { answered result ≡ spoken text.now }
+{
+    let mut words = Words::of(text);
+    match words.next() {
+        None => Ok(None),
+        Some(first) => stated(first, words).map(Some),
+    }
+}
+
+// What the line says, if anything. `overlong` says that it is only the beginning of a line.
+pub(crate) fn read_line(line: &[u8], overlong: bool) -> Result<Option<Statement>, Fault>
     ensures { answered result ≡ statement_of overlong line.now }
 {
     let text = content(line);
     if overlong && text.len() == line.len() {
         return Err(Fault::Overlong);
     }
-    let first = next_word(text);
-    if first.word.len() == 0 {
-        Ok(Statement::Nothing)
-    } else if same(first.word, b"box") {
-        setup(first.rest)
-    } else if same(first.word, b"length") {
-        record(first.rest)
-    } else {
-        Err(Fault::Unknown)
-    }
+    said(text)
 }

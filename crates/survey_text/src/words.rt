@@ -1,83 +1,67 @@
-ghost use Rattle.std.specs.Prelude.{◌≡◌, ◌≤◌, length};
-ghost use Rattle.std.specs.List.{prefix_len as longest_front};
-ghost use Rattle.survey_text.specs.Words.{belongs, front as front_of, behind as behind_of, content as uncommented, first_word, after_word};
+ghost use Rattle.std.specs.Prelude.{◌≡◌, ℕ, Bool, drop, length};
+ghost use Rattle.std.specs.List.{before_first, position_or_len};
+ghost use Rattle.std.specs.Iterator.{ActsAs, at_most};
+ghost use Rattle.survey_text.specs.Words.{blank, content as content_of, first_word, after_word};
+ghost use Rattle.survey_text.specs.Cuts.{NextWord};
 
-// A class of bytes.
-#[derive(Clone, Copy)]
-pub(crate) enum Class {
-    // spaces, tabs and carriage returns, which stand between words
-    Blank,
-    // the bytes of a word
-    Written,
-    // what stands before a comment
-    Uncommented,
-    // what stands before a decimal point
-    Whole,
-}
-
-impl Class {
-    // Is the byte of this class?
-    fn has(self, byte: u8) -> bool
-        ensures { result ≡ belongs self byte }
-    {
-        match self {
-            Class::Blank => byte == b' ' || byte == b'\t' || byte == b'\r',
-            Class::Written => byte != b' ' && byte != b'\t' && byte != b'\r',
-            Class::Uncommented => byte != b'#',
-            Class::Whole => byte != b'.',
-        }
-    }
-
-    // How many bytes of this class the text begins with.
-    fn leading(self, text: &[u8]) -> usize
-        ensures value { result ≡ longest_front (belongs self) text.now }
-        ensures within { result ≤ length text.now }
-    {
-        'bytes: for i in 0..text.len() {
-            if !self.has(text[i]) {
-                return i;
-            }
-        }
-        text.len()
-    }
-}
-
-// The bytes of one class that the text begins with.
-pub(crate) fn front(class: Class, text: &[u8]) -> &[u8]
-    ensures { result.now ≡ front_of class text.now }
+// Is the byte a space, a tab or a carriage return, which stand between words?
+fn is_blank(byte: &u8) -> bool
+    ensures { result ≡ blank byte.now }
 {
-    &text[0..class.leading(text)]
+    matches!(*byte, b' ' | b'\t' | b'\r')
 }
 
-// What follows them.
-pub(crate) fn behind(class: Class, text: &[u8]) -> &[u8]
-    ensures { result.now ≡ behind_of class text.now }
+// The text cut before the first byte that passes the test, or at its end where none does.
+pub(crate) fn cut<F: FnMut(&u8) -> bool>(text: &[u8], ends: F) -> (&[u8], &[u8])
+    requires { F.IsAlwaysCallable ends }
+    ensures front { (test : ℕ → Bool) → ActsAs F.FnMut ends (λ x. test x.now) → result.0.now ≡ before_first test text.now }
+    ensures behind { (test : ℕ → Bool) → ActsAs F.FnMut ends (λ x. test x.now) → result.1.now ≡ drop (position_or_len test text.now) text.now }
 {
-    &text[class.leading(text)..]
-}
-
-// A word, and what follows it on its line.
-#[derive(Clone, Copy)]
-pub(crate) struct Cut<'a> {
-    pub word: &'a [u8],
-    pub rest: &'a [u8],
+    let end = text.iter().position(ends).unwrap_or(text.len());
+    text.split_at(end)
 }
 
 // The line without its comment.
 pub(crate) fn content(line: &[u8]) -> &[u8]
-    ensures { result.now ≡ uncommented line.now }
+    ensures { result.now ≡ content_of line.now }
 {
-    front(Class::Uncommented, line)
+    cut(line, |byte| *byte == b'#').0
 }
 
-// The first word of the text, empty where there is none, and the rest.
-pub(crate) fn next_word(text: &[u8]) -> Cut<'_>
-    ensures word { result.word.now ≡ first_word text.now }
-    ensures rest { result.rest.now ≡ after_word text.now }
+// The first word of the text, empty where there is none, and what follows it.
+fn next_word(text: &[u8]) -> (&[u8], &[u8])
+    ensures word { result.0.now ≡ first_word text.now }
+    ensures rest { result.1.now ≡ after_word text.now }
 {
-    let start = behind(Class::Blank, text);
-    Cut {
-        word: front(Class::Written, start),
-        rest: behind(Class::Written, start),
+    let (_, start) = cut(text, |byte| !is_blank(byte));
+    cut(start, is_blank)
+}
+
+// The words of a text, one after the other.
+#[derive(Clone, Copy)]
+pub(crate) struct Words<'a> {
+    rest: &'a [u8],
+}
+
+impl<'a> Words<'a> {
+    // All words of the text.
+    pub(crate) fn of(text: &'a [u8]) -> Words<'a>
+        ensures { result.rest.now ≡ text.now }
+    {
+        Words { rest: text }
+    }
+}
+
+impl<'a> Iterator for Words<'a> {
+    type Item = &'a [u8];
+
+    ghost next_gives = { NextWord };
+
+    ghost remaining = { λ words. at_most (length words.rest.now) };
+
+    fn next(&mut self) -> Option<&'a [u8]> {
+        let (word, rest) = next_word(self.rest);
+        self.rest = rest;
+        if word.is_empty() { None } else { Some(word) }
     }
 }

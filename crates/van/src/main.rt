@@ -3,84 +3,18 @@
 
 #![tactic(auto)]
 
-mod messages;
-
 use inspection::refused::KEPT_LINES;
-use inspection::session::{Report, Session};
-use inspection::totals::Balance;
-use inspection::verdicts::{Inspected, Verdict};
-use messages::Reason;
+use inspection::session::Session;
+use inspection::totals::Totals;
 use std::io;
 use std::io::Read;
-use survey::keys::LengthNumber;
-use survey::length::Length;
 use survey::write_back::ROWS;
 use survey_text::lines::Line;
 
-// What a verdict says to a reader.
-fn wording(verdict: Verdict) -> &'static str {
-    match verdict {
-        Verdict::Unjudged => "no box to judge by",
-        Verdict::Fits => "fits",
-        Verdict::FitsTrimmed => "above the hot target, fits trimmed",
-        Verdict::TooHeavy => "above the hot target, too heavy even trimmed",
-    }
-}
-
-// Prints the verdict on a pipe length.
-fn print_length(
-    rt: &HostRuntime,
-    line: u64,
-    key: LengthNumber,
-    length: Length,
-    inspected: Inspected,
-) -> io::Result<()> {
-    let number = key.0;
-    let weight = inspected.weight;
-    let trimmed = inspected.trimmed;
-    let verdict = wording(inspected.verdict);
-    let mark = if length.changed() { ", changed" } else { "" };
-    println!(rt;
-        "line {line}: length {number}: weight {weight}, trimmed {trimmed}: {verdict}{mark}"
-    )
-}
-
 // Prints the corrected records to write back.
 fn print_rows(rt: &HostRuntime, session: &Session) -> io::Result<()> {
-    'rows: for i in 0..ROWS {
-        if let Some(row) = session.row(i) {
-            let number = row.key.0;
-            let place = row.val.place();
-            let observations = row.val.observations();
-            let step = row.val.step();
-            println!(rt;
-                "write: length {number} at place {place}: observations {observations}, picture step {step}"
-            )?;
-        }
-    }
-    Ok(())
-}
-
-// Goes on with a whole line, prints what there is to say, and writes full rows.
-fn finish(rt: &HostRuntime, session: &mut Session, number: u64, line: &Line) -> io::Result<()> {
-    match session.follow(number, line.read()) {
-        Report::Silent => {}
-        Report::BoxSetUp(capacity, hot_target, ghost_bound) => {
-            println!(rt;
-                "line {number}: box of capacity {capacity}: hot target {hot_target}, ghost bound {ghost_bound}"
-            )?;
-        }
-        Report::Measured(key, length, inspected) => print_length(
-            rt, number, key, length, inspected,
-        )?,
-        Report::LineRefused(fault) => {
-            let reason = Reason(fault);
-            println!(rt; "line {number}: refused: {reason}")?;
-        }
-    }
-    if session.row_count() >= ROWS as u64 {
-        print_rows(rt, session)?;
-        session.next_rows();
+    for row in session.rows() {
+        println!(rt; "write: {row}")?;
     }
     Ok(())
 }
@@ -88,8 +22,15 @@ fn finish(rt: &HostRuntime, session: &mut Session, number: u64, line: &Line) -> 
 // Prints how many lengths came, and what those that fit weigh.
 fn print_totals(rt: &HostRuntime, session: &Session) -> io::Result<()> {
     let totals = session.totals();
-    let (lengths, fits, trimmed) = (totals.lengths, totals.fits, totals.trimmed);
-    let (heavy, unjudged, weight) = (totals.heavy, totals.unjudged, totals.weight);
+    let Totals {
+        lengths,
+        fits,
+        trimmed,
+        heavy,
+        unjudged,
+        weight,
+        ..
+    } = totals;
     println!(rt; "lengths read: {lengths}")?;
     println!(rt; "  fit as they are: {fits}")?;
     println!(rt; "  fit trimmed: {trimmed}")?;
@@ -97,14 +38,10 @@ fn print_totals(rt: &HostRuntime, session: &Session) -> io::Result<()> {
     println!(rt; "  not judged: {unjudged}")?;
     match session.capacity() {
         None => println!(rt; "weight of those that fit: no box was set up"),
-        Some(capacity) => match totals.against(capacity) {
-            Balance::Left(left) => println!(rt;
-                "weight of those that fit: {weight} of {capacity}, {left} left"
-            ),
-            Balance::Over(over) => println!(rt;
-                "weight of those that fit: {weight} of {capacity}, {over} over"
-            ),
-        },
+        Some(capacity) => {
+            let balance = totals.against(capacity);
+            println!(rt; "weight of those that fit: {weight} of {capacity}, {balance}")
+        }
     }
 }
 
@@ -112,12 +49,8 @@ fn print_totals(rt: &HostRuntime, session: &Session) -> io::Result<()> {
 fn print_refused(rt: &HostRuntime, session: &Session) -> io::Result<()> {
     let count = session.refused_count();
     println!(rt; "lines refused: {count}")?;
-    'refused: for i in 0..KEPT_LINES {
-        if let Some(row) = session.refused_line(i) {
-            let line = row.line;
-            let reason = Reason(row.fault);
-            println!(rt; "  line {line}: {reason}")?;
-        }
+    for refused in session.refused_lines() {
+        println!(rt; "  {refused}")?;
     }
     if count > KEPT_LINES as u64 {
         let more = count - KEPT_LINES as u64;
@@ -126,47 +59,80 @@ fn print_refused(rt: &HostRuntime, session: &Session) -> io::Result<()> {
     Ok(())
 }
 
-// Goes on with a chunk of the input, and answers the number of the line that it ends in.
-fn feed(
-    rt: &HostRuntime,
-    session: &mut Session,
-    line: &mut Line,
-    first: u64,
-    chunk: &[u8],
-) -> io::Result<u64> {
-    let mut number = first;
-    'bytes: for byte in chunk {
-        if *byte == b'\n' {
-            finish(rt, session, number, line)?;
-            line.clear();
-            number = number.saturating_add(1);
-        } else {
-            line.push(*byte);
+// A survey that is being read: the inspection, the line that comes in, and its number.
+#[derive(Drop)]
+struct Reading {
+    session: Session,
+    line: Line,
+    number: u64,
+}
+
+impl Reading {
+    fn new() -> Reading {
+        Reading {
+            session: Session::new(),
+            line: Line::new(),
+            number: 1,
         }
     }
-    Ok(number)
+
+    // Goes on with a whole line, prints what there is to say, and writes full rows.
+    fn finish(&mut self, rt: &HostRuntime) -> io::Result<()> {
+        let number = self.number;
+        let read = self.line.read();
+        match self.session.follow(number, read) {
+            // not `Ok(Some(report))` and `Ok(None)`: the borrow checker does not cover a pattern that reaches so far
+            // into a result whose settings have a ghost field
+            Ok(said) => {
+                if let Some(report) = said {
+                    println!(rt; "line {number}: {report}")?;
+                }
+            }
+            Err(fault) => println!(rt; "line {number}: refused: {fault}")?,
+        }
+        if self.session.row_count() >= ROWS as u64 {
+            print_rows(rt, &self.session)?;
+            self.session.next_rows();
+        }
+        Ok(())
+    }
+
+    // Goes on with a chunk of the input.
+    fn feed(&mut self, rt: &HostRuntime, chunk: &[u8]) -> io::Result<()> {
+        for byte in chunk {
+            if *byte == b'\n' {
+                self.finish(rt)?;
+                self.line.clear();
+                self.number = self.number.saturating_add(1);
+            } else {
+                self.line.push(*byte);
+            }
+        }
+        Ok(())
+    }
 }
 
 fn main(rt: HostRuntime) -> io::Result<()> {
-    let mut session = Session::new();
-    let mut line = Line::new();
-    let mut number: u64 = 1;
+    let mut reading = Reading::new();
     let mut input = rt.stdin();
     let mut chunk = [0u8; 4096];
-    'chunks: for _ in 0..u64::MAX {
+    // by chunks: `bytes()` makes a call for each byte, and took twenty times as long; a buffered reader needs
+    // the heap. The range only bounds the loop, since a program's loop ends
+    for _ in 0..u64::MAX {
         let Ok(got) = input.read(&mut chunk) else {
             println!(rt; "standard input can't be read any further")?;
-            break 'chunks;
+            break;
         };
         if got == 0 {
-            break 'chunks;
+            break;
         }
-        number = feed(&rt, &mut session, &mut line, number, &chunk[0..got])?;
+        reading.feed(&rt, &chunk[0..got])?;
     }
-    finish(&rt, &mut session, number, &line)?;
-    print_rows(&rt, &session)?;
-    print_totals(&rt, &session)?;
+    reading.finish(&rt)?;
+    let session = &reading.session;
+    print_rows(&rt, session)?;
+    print_totals(&rt, session)?;
     let corrected = session.totals().corrected;
     println!(rt; "records to write back: {corrected}")?;
-    print_refused(&rt, &session)
+    print_refused(&rt, session)
 }

@@ -1,7 +1,8 @@
 ghost use Rattle.std.specs.Prelude.{◌≡◌, false, []};
 ghost use Rattle.survey_text.specs.Lines.{kept, lengthened, overrun};
 
-use super::{LINE_BYTES, Line};
+use super::Line;
+use arrayvec::ArrayVec;
 
 impl Line {
     // An empty line.
@@ -10,8 +11,7 @@ impl Line {
         ensures overlong { result.overlong ≡ false }
     {
         Line {
-            bytes: [0; LINE_BYTES],
-            len: 0,
+            bytes: ArrayVec::new(),
             overlong: false,
         }
     }
@@ -21,7 +21,7 @@ impl Line {
         ensures bytes { kept self.new ≡ [] }
         ensures overlong { self.new.overlong ≡ false }
     {
-        self.len = 0;
+        self.bytes.clear();
         self.overlong = false;
     }
 
@@ -30,10 +30,7 @@ impl Line {
         ensures bytes { kept self.new ≡ lengthened (kept self.old) byte }
         ensures overlong { self.new.overlong ≡ overrun (kept self.old) self.old.overlong }
     {
-        if self.len < LINE_BYTES {
-            self.bytes[self.len] = byte;
-            self.len += 1;
-        } else {
+        if self.bytes.try_push(byte).is_err() {
             self.overlong = true;
         }
     }

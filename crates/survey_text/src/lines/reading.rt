@@ -7,17 +7,10 @@ use crate::faults::Fault;
 use crate::statements::{Statement, read_line};
 
 impl Line {
-    // What is kept of the line.
-    fn bytes(&self) -> &[u8]
-        ensures { result.now ≡ kept self.now }
-    {
-        &self.bytes[0..self.len]
-    }
-
-    // What the line says, or why it is of no use.
-    pub fn read(&self) -> Result<Statement, Fault>
+    // What the line says, if anything, or why it is of no use.
+    pub fn read(&self) -> Result<Option<Statement>, Fault>
         ensures { answered result ≡ statement self.now.overlong (kept self.now) }
     {
-        read_line(self.bytes(), self.overlong)
+        read_line(&self.bytes, self.overlong)
     }
 }

@@ -1,5 +1,6 @@
-use Rattle.std.proofs.Common.{arith, rules}
+use Rattle.survey_text.proofs.Decimals.{read_within}
+use Rattle.std.proofs.Common.{Ok, arith}
 use Rattle.survey_text.proofs.digits.number.Goals as goal
 
-pub returns : goal.returns
-returns c = record { value = search rules; within = c.read_on.ensures.within (omega arith) }
+pub returns-clause-within : goal.returns-clause-within
+returns-clause-within c = rw c.read_on.ensures (read_within c.args.most (Ok 0) c.args.word.now (omega arith))

@@ -1,4 +1,4 @@
-use Rattle.std.proofs.Common.{◌≡◌, ◌^◌, ◌<◌, ◌≤◌, arith, lit<}
+use Rattle.std.proofs.Common.{◌^◌, ◌≤◌, arith, lit<}
 use native.Mathlib.Nat.{pow-le-pow_right}
 use Rattle.survey_text.proofs.Decimals.{quotient_nearest}
 use Rattle.survey_text.proofs.digits.quotient.Goals as goal

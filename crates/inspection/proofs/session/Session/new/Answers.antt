@@ -1,13 +1,9 @@
-use Rattle.std.proofs.Common.{refl}
+use Rattle.std.proofs.Common.{◌≡◌, rules}
 use Rattle.inspection.proofs.Accounting.{accounts}
+use Rattle.inspection.specs.Sums.{none_yet}
 use Rattle.inspection.proofs.session.Session.new.Goals as goal
 
-pub returns : goal.returns
-returns c =
-    record {
-      without = refl;
-      totals = c.new.ensures;
-      refused = c.new-2.ensures;
-      rows = c.new-3.ensures.count;
-      accounts = accounts _ c.new.ensures c.new-3.ensures.gathers;
-    }
+pub returns-clause-accounts : goal.returns-clause-accounts
+returns-clause-accounts c =
+    let none : c.default.result ≡ none_yet = search rules in
+    accounts _ none c.new.ensures.gathers
