@@ -6,6 +6,7 @@ It goes by text and prints a heading and the places of each kind. It judges noth
 says of each place whether it is one.
 """
 import collections
+import difflib
 import glob
 import itertools
 import os
@@ -76,11 +77,55 @@ def functions():
             yield path, m.group(1), names, clauses
 
 
+def shape(text):
+    """The text with every name, number and string of its own replaced by one sign, so that only its shape is left."""
+    text = re.sub(r"//[^\n]*", "", text)
+    kept = {"if", "else", "match", "for", "in", "while", "loop", "let", "mut", "return", "Some", "None", "Ok", "Err", "self"}
+    return ["x" if re.fullmatch(r"[\w']+", t) and t not in kept else t for t in re.findall(r"[\w']+|[^\s\w]", text)]
+
+
+def bodies():
+    """Path, name and shape of the body of each function of src/ that is no test."""
+    for path, text in sources():
+        if path.endswith("tests.rt") or "slab_tests" in path:
+            continue
+        for m in re.finditer(r"\bfn (\w+)", text):
+            at = m.end()
+            depth = 0
+            while at < len(text):
+                c = text[at]
+                if c in "([":
+                    at = balanced(text, at)
+                elif c == ";":
+                    break
+                elif c == "{" and not re.search(r"(requires|ensures)( \w+)? $", text[:at]):
+                    yield path, m.group(1), shape(text[at : balanced(text, at) + 1])
+                    break
+                elif c == "{":
+                    at = balanced(text, at)
+                at += 1
+
+
+def twins():
+    found = [b for b in bodies() if len(b[2]) >= 25]
+    count = 0
+    for a, b in itertools.combinations(found, 2):
+        if min(len(a[2]), len(b[2])) * 10 < max(len(a[2]), len(b[2])) * 8:
+            continue
+        alike = difflib.SequenceMatcher(None, a[2], b[2], autojunk=False).ratio()
+        if alike >= 0.9:
+            print(f"{alike:.2f} {a[0]}:{a[1]} ~ {b[0]}:{b[1]}")
+            count += 1
+    print(f"-- {count}")
+
+
 def main():
     heading("1. enums")
     grep(r"^\s*(pub(\(\w+\))? )?enum ")
     heading("1. results that are small numbers, and constants in their place")
     grep(r"\bfn \w+.*-> u8\b")
+    heading("2. functions whose bodies are alike but for names and numbers")
+    twins()
     heading("3. loops")
     grep(r"^\s*('\w+: )?(for .* in |while |loop \{)")
     heading("3. of these, over a range of numbers from 0, or by while")
