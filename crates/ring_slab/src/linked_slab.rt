@@ -1,4 +1,5 @@
-// Rings, a free list and hash chains in one borrowed slice of slots.
+// Rings, a free list and hash chains in one borrowed slice of slots, linked by number: the slots are the caller's, and nothing
+// is allocated.
 ghost use Rattle.std.specs.Prelude.{◌≡◌, ◌<◌, ◌≤◌, min, length, Some, None, slice_set};
 ghost use Rattle.ring_slab.specs.Places.{look, head_of, Below};
 ghost use Rattle.ring_slab.specs.Slots.{chains, nexts, prevs, hashes, items, item_at, SameChains, SameRings};
@@ -11,7 +12,8 @@ use crate::{chain, field, ring, vacancy, write};
 
 // A slab over a slice of slots, or over the first 1,048,576 of them. A place is the number of a slot: a plain number, since
 // slots keep places as links, so each call asks that its place is a slot's. That there are at most so many slots is asked only by
-// the calls that need it: as a fact of the type it would be asked of every slab that is written as a literal.
+// the calls that need it: as a fact of the type it would be asked of every slab that is written as a literal. What a call leaves as
+// it was (`SameChains`, `SameRings`, the items) is a clause: it relates the slab before to the one after.
 #[derive(Drop)]
 pub struct LinkedSlab<'a, T: Copy> {
     pub slots: &'a mut [Slot<T>],

@@ -1,5 +1,6 @@
 // The two clock hands. Weigher, lifecycle and request state go from call to call as three parameters: a struct of them would
-// lend the state on by a `&mut` inside, and each function would owe a clause that it leaves the other two as they are.
+// lend the state on by a `&mut` inside, and each function would owe a clause that it leaves the other two as they are. `r` is
+// what the caller read at `at`, which is asked, as in residents.rt; of what a call leaves see cache_shard.rt.
 ghost use Rattle.std.specs.Prelude.{◌≡◌, ℕ, ◌+◌, ◌<◌, ◌≤◌, true, false, not, [], ◌∷◌, length, IfSome, Some, slice_set};
 ghost use Rattle.model.specs.Hands.{evict as evicted, hot_hand, cold_hand, cool as cooled, shrink as shrunk};
 ghost use Rattle.ring_slab.specs.Places.{look, count};

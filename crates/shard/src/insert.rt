@@ -1,5 +1,6 @@
 // Records that come in. What a key found is passed on beside the shard, and each function asks that it stands there still: a
-// type that kept this would have to borrow the shard.
+// type that kept this would have to borrow the shard. `r` is what the caller read at `at`, as in residents.rt; weigher,
+// lifecycle and request state are three parameters, as in hands.rt.
 ghost use Rattle.std.specs.Prelude.{◌≡◌, ◌+◌, ◌<◌, false, length, if◌then◌else◌, Some, nat_le};
 ghost use Rattle.interface.specs.Keys.{keying};
 ghost use Rattle.settings.specs.Standing.{limits};

@@ -17,7 +17,7 @@ use settings::Settings;
 
 // The slots of a shard, the rings in them, what is counted of them, and the terms that it works under. While a call moves an
 // entry, its place is in hand: in no ring. What is in hand differs from function to function, so what is known of it, and that
-// the lists stand, are clauses of each here; in `CacheShard` it is a fact of the type.
+// the lists stand, are clauses of each here; in `CacheShard` it is a fact of the type. Of what a call leaves see there.
 #[derive(Drop)]
 pub struct Layout<'a, K: Copy, V: Copy> {
     pub slab: LinkedSlab<'a, Entry<K, V>>,

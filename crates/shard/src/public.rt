@@ -1,4 +1,5 @@
-// The calls of the cache. None of them asks anything of its caller.
+// The calls of the cache. None of them asks anything of its caller. Weigher, lifecycle and request state are three parameters,
+// as in hands.rt.
 ghost use Rattle.std.specs.Prelude.{◌≡◌, length};
 ghost use Rattle.interface.specs.Keys.{keying};
 ghost use Rattle.settings.specs.Standing.{limits};

@@ -7,8 +7,8 @@ use std::marker::Model;
 // The first `N` rows that were noted, in their order, and how many were noted.
 #[derive(Drop)]
 pub struct FirstRows<T: Copy, const N: usize> {
-    // an array, since the memory is fixed: an `ArrayVec` would want a default of each row type, and the count may be
-    // more than the rows
+    // an array and a count: an `ArrayVec` would want a default of each row type, and the count may be more than the
+    // rows
     rows: [T; N],
     count: u64,
 }

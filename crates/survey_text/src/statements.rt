@@ -49,7 +49,8 @@ fn whole(field: Field, word: &[u8]) -> Result<u64, Fault>
     number(word, field.limit()).map_err(|why| why.in_field(field))
 }
 
-// The values that the words of a statement give, one after the other.
+// The values that the words of a statement give, one after the other. Each says what it leaves of the text: that relates two
+// values, so it is a clause.
 impl<'a> Words<'a> {
     // The next word, which this field needs.
     fn word(&mut self, field: Field) -> Result<&'a [u8], Fault>
