@@ -6,6 +6,7 @@
 ghost use Rattle.std.specs.Prelude.{◌≡◌, ℕ, Bool, true, ◌||◌};
 ghost use Rattle.interface.specs.Meaning.{Life, idle};
 
+pub mod numbers;
 pub mod refusal;
 #[cfg(test)]
 mod tests;

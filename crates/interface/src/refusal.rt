@@ -1,5 +1,5 @@
-ghost use Rattle.std.specs.Prelude.{◌≡◌, Some};
-ghost use Rattle.interface.specs.Refusals.{number as numbered, words};
+ghost use Rattle.std.specs.Prelude.{Some};
+ghost use Rattle.interface.specs.Refusals.{words};
 
 use std::error::Error;
 use std::fmt;
@@ -27,15 +27,6 @@ pub enum Refusal {
     NothingOpen = 9,
     // the ghost bound would exceed 2^53
     GhostBoundTooLarge = 10,
-}
-
-impl Refusal {
-    // The number under which the refusal is documented.
-    pub fn number(self) -> u8
-        ensures { result ≡ numbered self }
-    {
-        self as u8
-    }
 }
 
 // Why the call was refused, in words.

@@ -17,7 +17,7 @@ rescaled_sound l c large = go (eqb l.capacity 0)
     go false many = target_sound c (scaled l.bound (ratio c l.capacity)) (ratio l.target l.capacity) large many
 
 -- a new capacity leaves sound limits sound, taken or refused
-resized_sound : (l : Limits) (c : ℕ) → Sound l → Sound (standing l (resized l c))
+pub resized_sound : (l : Limits) (c : ℕ) → Sound l → Sound (standing l (resized l c))
 resized_sound l c h =
     go (ltb most_weight c) (ltb most_weight (rescaled l c).bound) (rescaled l c) (λ large many.
     rescaled_sound l c (ltb-false most_weight c large) (ltb-false most_weight (rescaled l c).bound many))

@@ -1,9 +1,9 @@
 -- What is kept of a line as it comes in.
-use Rattle.std.specs.Prelude.{ℕ, Bool, true, cond, List, [], ◌∷◌, ◌++◌, length, nat_lt}
+use Rattle.std.specs.Prelude.{ℕ, Bool, true, cond, List, [], ◌∷◌, ◌++◌, length, take, nat_lt}
 use Rattle.survey_text.specs.declared.lines.Line.{Line}
 
 abbrev pub kept : Line → List ℕ
-kept l = l.bytes.items
+kept l = take l.len l.bytes
 
 -- one byte more, while there is room
 abbrev pub lengthened : List ℕ → ℕ → List ℕ

@@ -1,6 +1,4 @@
-ghost use Rattle.std.specs.Prelude.{◌≤◌, length};
-
-use arrayvec::ArrayVec;
+ghost use Rattle.std.specs.Prelude.{◌≤◌};
 
 mod filling;
 mod reading;
@@ -11,7 +9,9 @@ pub const LINE_BYTES: usize = 1024;
 // A line as it comes in, byte by byte. Of an overlong line the beginning is kept.
 #[derive(Drop)]
 pub struct Line {
-    bytes: ArrayVec<u8, LINE_BYTES>,
+    // an array and a length: an `ArrayVec` writes over all its bytes when it is cleared
+    bytes: [u8; LINE_BYTES],
+    len: usize,
     overlong: bool,
-    ghost within: { length bytes.items ≤ 1024 },
+    ghost within: { len ≤ 1024 },
 }

@@ -25,7 +25,8 @@ fn scaled(n: u64, share: f64) -> u64
 fn target(capacity: u64, share: f64) -> u64
     ensures { result ≡ target_of capacity share }
 {
-    scaled(capacity, share).clamp(capacity.min(1), capacity)
+    // not `clamp`, whose tests the compiler doesn't take into a caller that knows the share
+    scaled(capacity, share).max(capacity.min(1)).min(capacity)
 }
 
 fn ratio(part: u64, whole: u64) -> f64

@@ -1,8 +1,7 @@
 ghost use Rattle.std.specs.Prelude.{◌≡◌, false, []};
 ghost use Rattle.survey_text.specs.Lines.{kept, lengthened, overrun};
 
-use super::Line;
-use arrayvec::ArrayVec;
+use super::{LINE_BYTES, Line};
 
 impl Line {
     // An empty line.
@@ -11,7 +10,8 @@ impl Line {
         ensures overlong { result.overlong ≡ false }
     {
         Line {
-            bytes: ArrayVec::new(),
+            bytes: [0; LINE_BYTES],
+            len: 0,
             overlong: false,
         }
     }
@@ -21,7 +21,7 @@ impl Line {
         ensures bytes { kept self.new ≡ [] }
         ensures overlong { self.new.overlong ≡ false }
     {
-        self.bytes.clear();
+        self.len = 0;
         self.overlong = false;
     }
 
@@ -30,7 +30,10 @@ impl Line {
         ensures bytes { kept self.new ≡ lengthened (kept self.old) byte }
         ensures overlong { self.new.overlong ≡ overrun (kept self.old) self.old.overlong }
     {
-        if self.bytes.try_push(byte).is_err() {
+        if self.len < LINE_BYTES {
+            self.bytes[self.len] = byte;
+            self.len += 1;
+        } else {
             self.overlong = true;
         }
     }

@@ -11,6 +11,6 @@ impl Line {
     pub fn read(&self) -> Result<Option<Statement>, Fault>
         ensures { answered result ≡ statement self.now.overlong (kept self.now) }
     {
-        read_line(&self.bytes, self.overlong)
+        read_line(&self.bytes[..self.len], self.overlong)
     }
 }
